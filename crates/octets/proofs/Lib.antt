@@ -1,0 +1,9 @@
+pub mod Tests
+pub mod Every
+pub mod Each
+pub mod Alike
+pub mod Puts
+pub mod Lent
+pub mod Rows
+pub mod Numbers
+pub mod Areas
