@@ -7,3 +7,4 @@ pub mod Lent
 pub mod Rows
 pub mod Numbers
 pub mod Areas
+pub mod Joins

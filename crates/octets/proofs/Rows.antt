@@ -1,18 +1,17 @@
 -- A buffer in rows of n octets: how many, a put in one of them, one more behind them, put together again. Assumes nothing.
 use Prim.Native.Nat.{ℕ, zero, suc, _+_, _-_, _*_, _≤_, _<_}
 use mathlib.Core.Path.{_≡_, refl, sym, ap, ap₂, _∙_}
-use mathlib.Core.List.{List, [], _∷_, _++_, append-assoc}
+use mathlib.Core.List.{List, [], _∷_, _++_, append-assoc, append-nil}
 use native.Mathlib.Numerals.{add-one}
-use native.Mathlib.Nat.{suc-mul}
+use native.Mathlib.Nat.{suc-mul, mul-zero, mul-suc, add-comm, zero-add}
 use native.Mathlib.Omega.{arith}
-use lib.ListN.{length, take, drop, set, getD, length-drop}
-use lib.Seq.{drop-drop, length-take-le}
+use lib.ListN.{length, take, drop, set, getD, length-drop, length-append}
+use lib.Seq.{drop-drop, length-take-le, take-add, take-at, drop-at, getD-drop}
 use Rattle.octets.specs.Parts.{part, put, rows, concat}
-use native.Mathlib.Nat.{mul-zero, mul-suc, add-comm}
-use mathlib.Core.List.{append-nil}
-use lib.ListN.{length-append}
-use lib.Seq.{take-add, take-at, drop-at}
-use Rattle.octets.proofs.Puts.{take-put, drop-put-after, take-put-before, drop-put, put-front, part-put-same}
+use Rattle.octets.specs.Numbers.{Octets}
+use Rattle.octets.proofs.Each.{All}
+use Rattle.octets.proofs.Numbers.{octets-part}
+use Rattle.octets.proofs.Puts.{take-put, drop-put-after, take-put-before, drop-put, put-front, put-append, part-put-same}
 
 pub rows-length : (m n : ℕ) (s : List ℕ) → length (rows m n s) ≡ m
 unfolding rows
@@ -96,6 +95,11 @@ rows-concat w es s h l =
     let n : length (concat es) ≡ w * length es = length-concat w es h in
     ap (rows (length es) w) (put-front (concat es) s (omega arith)) ∙ rows-concat-then w es (drop (length (concat es)) s) h
 
+-- rows put behind rows
+pub put-concat : (w : ℕ) (es fs : List (List ℕ)) (s : List ℕ) → Wide w es
+    → put (w * length es) (concat fs) (put 0 (concat es) s) ≡ put 0 (concat (es ++ fs)) s
+put-concat w es fs s h = sym (rw (concat-append, put-append, length-concat w es h, zero-add))
+
 -- ---- one row more
 
 pub rows-snoc : (m n : ℕ) (s : List ℕ) → rows (suc m) n s ≡ rows m n s ++ part (n * m) n s ∷ []
@@ -122,3 +126,10 @@ rows-more m n e s k h =
     let same : rows m n (put (n * m) e s) ≡ rows m n s = rows-before m n (n * m) e s (omega arith) in
     rw (add-one m, rows-snoc m n, same)
     (ap (λ (r : List ℕ). rows m n s ++ r ∷ []) (ap (λ (j : ℕ). part (n * m) j (put (n * m) e s)) (sym k) ∙ part-put-same (n * m) e s fits))
+
+-- ---- rows of octets
+
+pub rows-octets : (m n : ℕ) (s : List ℕ) → Octets s → All Octets (rows m n s)
+unfolding rows part
+rows-octets zero n s h = tt
+rows-octets (suc m) n s h = (octets-part 0 n s h, rows-octets m n (drop n s) (λ i. rw getD-drop (h (n + i))))

@@ -1,0 +1,23 @@
+-- The paper's numbers of the refusals, of the whole product. Assumes nothing.
+use Prim.Native.Nat.{ℕ}
+use Rattle.frame.specs.declared.Refusal.{Refusal}
+use Rattle.frame.specs.declared.Refusal.the-variants.{Unsound, SmallBuffer, WrongLength, WrongCheck, NoDesk, OutOfRange, NoRoom, NotTheReply}
+
+-- the paper's number of a refusal
+abbrev pub numberOf : Refusal → ℕ
+-- store of wrong size or not sound
+numberOf Unsound = 1
+-- reply buffer shorter than 842
+numberOf SmallBuffer = 2
+-- frame shorter or longer than its kind allows, or length field differs from the length received
+numberOf WrongLength = 3
+-- CRC wrong
+numberOf WrongCheck = 4
+-- desk above 7
+numberOf NoDesk = 5
+-- argument out of range
+numberOf OutOfRange = 6
+-- the output has too little room
+numberOf NoRoom = 7
+-- a sound frame that is not the reply to the request
+numberOf NotTheReply = 8

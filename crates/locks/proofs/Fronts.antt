@@ -1,0 +1,83 @@
+-- Tests of the first n locks of an array, lock by lock: what is left to test at each turn of a loop. Assumes nothing.
+use Prim.Native.Nat.{ℕ, _+_, _≤_, _<_}
+use mathlib.Core.Path.{_≡_, refl, sym, ap, _∙_}
+use mathlib.Core.List.{List, [], _∷_}
+use mathlib.Core.Bool.{Bool, true, false, not, _&&_, _||_}
+use native.Mathlib.Numerals.{add-one}
+use native.Mathlib.Omega.{arith}
+use lib.Dec.{eqb, leb}
+use borrow.Author.Tests.{eq-eqb, ne-eqb, le-leb, lt-leb}
+use lib.ListN.{length, take, drop, getD, drop-of-length-le}
+use lib.Seq.{drop-cons, length-take-le, getD-take}
+use Rattle.octets.specs.Tests.{all}
+use Rattle.locks.specs.declared.Lock.{Lock}
+use Rattle.locks.specs.Locks.{locked, lockLegal, distinct, lookupFrom}
+use Rattle.locks.proofs.Lookups.{locked-cons}
+
+-- ---- the ticks of one lock
+
+module _ (valid : ℕ) (l : Lock) where
+  pub ticks-none : l .left ≡ 0 → lockLegal valid l ≡ false
+  unfolding lockLegal
+  ticks-none e = rw e
+
+  pub ticks-over : valid < l .left → lockLegal valid l ≡ false
+  unfolding lockLegal
+  ticks-over h = rw (le-leb 1 (l .left) (omega arith), lt-leb (l .left) valid h)
+
+  pub ticks-right : (l .left ≡ 0 → ⊥) → l .left ≤ valid → lockLegal valid l ≡ true
+  unfolding lockLegal
+  ticks-right n h = rw (le-leb 1 (l .left) (omega arith), le-leb (l .left) valid h)
+
+-- ---- the first n
+
+module _ (a : List Lock) (n : ℕ) (d : Lock) (within : n ≤ length a) where
+  next : (i : ℕ) → i < n → drop i (take n a) ≡ getD a i d ∷ drop (i + 1) (take n a)
+  next i h =
+      let l : length (take n a) ≡ n = length-take-le n a within in
+      rw (add-one, drop-cons (take n a) i d (omega arith), getD-take n a i d h)
+
+  -- a test of each
+  module _ (f : Lock → Bool) (i : ℕ) (h : i < n) where
+    pub each-fails : f (getD a i d) ≡ false → all f (drop i (take n a)) ≡ false
+    unfolding all
+    each-fails e = rw (next i h, e)
+
+    pub each-holds : f (getD a i d) ≡ true → all f (drop i (take n a)) ≡ all f (drop (i + 1) (take n a))
+    unfolding all
+    each-holds e = rw (next i h, e)
+
+  -- a UID among those from i on
+  module _ (uid i : ℕ) (h : i < n) where
+    pub stands-here : getD a i d .uid ≡ uid → locked uid (drop i (take n a)) ≡ true
+    stands-here e = ap (locked uid) (next i h) ∙ locked-cons uid (getD a i d) (drop (i + 1) (take n a)) ∙ rw (eq-eqb (getD a i d .uid) uid e)
+
+    pub stands-later : (getD a i d .uid ≡ uid → ⊥) → locked uid (drop i (take n a)) ≡ locked uid (drop (i + 1) (take n a))
+    stands-later e = ap (locked uid) (next i h) ∙ locked-cons uid (getD a i d) (drop (i + 1) (take n a)) ∙ rw (ne-eqb (getD a i d .uid) uid e)
+
+  -- no UID twice
+  module _ (i : ℕ) (h : i < n) where
+    pub twice : locked (getD a i d .uid) (drop (i + 1) (take n a)) ≡ true → distinct (drop i (take n a)) ≡ false
+    unfolding distinct
+    twice e = rw (next i h, e)
+
+    pub once : locked (getD a i d .uid) (drop (i + 1) (take n a)) ≡ false → distinct (drop i (take n a)) ≡ distinct (drop (i + 1) (take n a))
+    unfolding distinct
+    once e = rw (next i h, e)
+
+  -- ---- none is left
+
+  none : (i : ℕ) → n ≤ i → drop i (take n a) ≡ []
+  none i h = let l : length (take n a) ≡ n = length-take-le n a within in drop-of-length-le (take n a) {i = i} (omega arith)
+
+  pub each-end : (f : Lock → Bool) (i : ℕ) → n ≤ i → all f (drop i (take n a)) ≡ true
+  unfolding all
+  each-end f i h = rw (none i h)
+
+  pub stands-end : (uid i : ℕ) → n ≤ i → locked uid (drop i (take n a)) ≡ false
+  unfolding lookupFrom
+  stands-end uid i h = ap (locked uid) (none i h)
+
+  pub distinct-end : (i : ℕ) → n ≤ i → distinct (drop i (take n a)) ≡ true
+  unfolding distinct
+  distinct-end i h = rw (none i h)

@@ -1,0 +1,41 @@
+-- `locks::tick` meets its contract, by those of its three callees. Assumes nothing.
+use Prim.Native.Nat.{_≤_}
+use mathlib.Core.Path.{_≡_, ap, _∙_}
+use mathlib.Core.List.{List}
+use native.Mathlib.Omega.{arith}
+use lib.ListN.{length, take}
+use borrow.Author.Needs.{needs}
+use Rattle.octets.specs.Parts.{put}
+use Rattle.locks.specs.declared.Lock.{Lock}
+use Rattle.locks.specs.Locks.{locksIn, locksOctets, sweptOf}
+use Rattle.locks.proofs.Sweeps.{swept-length, sweep-front}
+use Rattle.locks.proofs.Stored.{locks-in-length}
+use Rattle.locks.proofs.tick.Statement.{statement}
+use Rattle.locks.proofs.tick.Tie as tie
+use Rattle.locks.proofs.tick.Reads as reads
+use Rattle.locks.proofs.tick.Lts as lts
+
+-- how many are left
+count : (c : tie.After-after-sweep) → c .after-sweep .result .n ≡ length (sweptOf (locksIn (c .before .before .before .before .args .n) (c .before .before .before .before .args .p .now)))
+count c = rw (← c .before .load .ensures) (c .after-sweep .ensures .0)
+
+save-requires : tie.Need-save-requires
+save-requires c κs =
+    let s = c .before .before in
+    let a = s .before .before .before .before .args in
+    let few : s .after-sweep .result .n ≤ a .n = omega (arith, count s, swept-length (locksIn (a .n) (a .p .now)), locks-in-length (a .n) (a .p .now)) in
+    (omega arith, omega arith)
+
+returns : tie.Need-returns
+returns c =
+    let s = c .before .before .before .before .before in
+    let a = s .before .before .before .before .args in
+    let k = s .after-sweep .result .n in
+    let left : take k (s .after-sweep .result .locks) ≡ sweptOf (locksIn (a .n) (a .p .now)) =
+    ap (take k) (s .after-sweep .ensures .1) ∙ sweep-front (s .before .load .result) (a .n) k (s .after-sweep .ensures .0) ∙ ap sweptOf (s .before .load .ensures) in
+    (count s, c .before .before .save .ensures ∙ ap (λ (ls : List Lock). put 0 (locksOctets ls) (a .p .now)) left)
+
+pub tick-spec : {M : Type 1} → statement M
+tick-spec =
+    tie.close
+    (tie.spec (λ c κs. search needs) (λ c κs. search needs) save-requires (λ c. search needs) returns)

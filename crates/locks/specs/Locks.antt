@@ -1,0 +1,93 @@
+-- The locks of one desk: a tick, a search, a new lock, which lists are sound, and their octets in the store. Assumes nothing.
+use Prim.Native.Nat.{ℕ, _+_, _-_}
+use mathlib.Core.Bool.{Bool, true, false, cond, not, _&&_}
+use mathlib.Core.List.{List, [], _∷_, _++_, map}
+use lib.Dec.{ltb, leb, eqb}
+use lib.ListN.{length, take, drop}
+use Rattle.octets.specs.Tests.{all}
+use Rattle.octets.specs.Parts.{part, rows, concat}
+use Rattle.octets.specs.Numbers.{number, octets, u16At}
+use Rattle.locks.specs.declared.Lock.{Lock}
+use Rattle.locks.specs.declared.Found.{Found}
+use Rattle.locks.specs.declared.Found.the-variants.{At, Nothing}
+
+-- ---- a tick
+
+-- a lock with one tick less
+abbrev pub aged : Lock → Lock
+aged l = record { uid = l .uid; left = l .left - 1 }
+
+-- each lock loses one tick; those that reach zero go, and the others keep their order
+unfoldable pub sweptOf : List Lock → List Lock
+sweptOf [] = []
+sweptOf (l ∷ ls) = cond (ltb 1 (l .left)) (aged l ∷ sweptOf ls) (sweptOf ls)
+
+-- the first n are swept, and what is left of them stands in front; what stood behind that stays as it was
+abbrev pub sweepOf : ℕ → List Lock → List Lock
+sweepOf n ls = sweptOf (take n ls) ++ drop (length (sweptOf (take n ls))) ls
+
+-- ---- a search
+
+-- the first lock with that UID: its place, counted from k, and the ticks that it has left
+unfoldable pub lookupFrom : ℕ → ℕ → List Lock → Found
+lookupFrom k uid [] = Nothing
+lookupFrom k uid (l ∷ ls) = cond (eqb (l .uid) uid) (At k (l .left)) (lookupFrom (k + 1) uid ls)
+
+abbrev pub lookup : ℕ → List Lock → Found
+lookup uid ls = lookupFrom 0 uid ls
+
+abbrev pub isFound : Found → Bool
+isFound (At k left) = true
+isFound Nothing = false
+
+-- a lock with that UID stands
+abbrev pub locked : ℕ → List Lock → Bool
+locked uid ls = isFound (lookup uid ls)
+
+-- ---- a new lock
+
+abbrev pub mostLocks : ℕ
+mostLocks = 64
+
+-- where so many locks stand, the oldest gives way
+unfoldable pub madeRoom : List Lock → List Lock
+madeRoom ls = cond (ltb (length ls) mostLocks) ls (drop 1 ls)
+
+-- a lock of VALID-TIME ticks at the end, where that is above 0
+unfoldable pub added : ℕ → ℕ → List Lock → List Lock
+added uid valid ls = cond (eqb valid 0) ls (madeRoom ls ++ (record { uid = uid; left = valid } ∷ []))
+
+-- ---- sound lists
+
+-- ticks from 1 up to VALID-TIME in force
+unfoldable pub lockLegal : ℕ → Lock → Bool
+lockLegal valid l = leb 1 (l .left) && leb (l .left) valid
+
+-- no UID stands twice
+unfoldable pub distinct : List Lock → Bool
+distinct [] = true
+distinct (l ∷ ls) = not (locked (l .uid) ls) && distinct ls
+
+unfoldable pub locksLegal : ℕ → List Lock → Bool
+locksLegal valid ls = leb (length ls) mostLocks && all (lockLegal valid) ls && distinct ls
+
+-- ---- in the store
+
+abbrev pub lockWidth : ℕ
+lockWidth = 10
+
+-- a lock as octets: the UID, then the ticks left
+unfoldable pub lockOctets : Lock → List ℕ
+lockOctets l = octets 8 (l .uid) ++ octets 2 (l .left)
+
+-- the lock that such octets hold
+unfoldable pub lockFrom : List ℕ → Lock
+lockFrom r = record { uid = number (part 0 8 r); left = u16At 8 r }
+
+-- the first n locks of a store
+unfoldable pub locksIn : ℕ → List ℕ → List Lock
+locksIn n p = map lockFrom (rows n lockWidth p)
+
+-- locks one after the other, as octets
+unfoldable pub locksOctets : List Lock → List ℕ
+locksOctets ls = concat (map lockOctets ls)

@@ -1,0 +1,68 @@
+-- `table::shares_ok` meets its contract: after d turns the first d desks are tested. Assumes nothing.
+use mathlib.Core.Path.{_≡_, sym}
+use mathlib.Core.Bool.{true}
+use Prim.Native.Nat.{_-_, _≤_, _<_}
+use native.Mathlib.Omega.{arith}
+use Rattle.octets.specs.Tests.{every}
+use Rattle.octets.proofs.Every.{every-none, every-more, every-false, every-end}
+use Rattle.table.specs.Entries.{desks, entries, shareKept, sharesKept}
+use Rattle.table.proofs.Tallies.{share-within, share-past}
+use borrow.Author.Needs.{needs}
+use Rattle.table.proofs.shares_ok.Statement.{statement}
+use Rattle.table.proofs.shares_ok.Tie as tie
+
+abbrev Inv-loop : tie.InvT-loop
+Inv-loop t n c d₀ d = (d ≤ desks) × (every d (shareKept (entries n t)) ≡ true)
+
+abbrev μ-loop : tie.MeasureT-loop
+μ-loop t n c d₀ d = desks - d
+
+tally-requires : tie.Need-tally-requires Inv-loop μ-loop
+tally-requires c κs = search needs
+
+loop-holds : tie.Need-loop-holds Inv-loop μ-loop
+loop-holds c = (omega arith, every-none _)
+
+mul-if1 : tie.Need-mul-if1 Inv-loop μ-loop
+mul-if1 c = search needs
+
+array-read-if1 : tie.Need-array-read-if1 Inv-loop μ-loop
+array-read-if1 c = search needs
+
+returns : tie.Need-returns Inv-loop μ-loop
+unfolding sharesKept
+returns c =
+    let l = c .before .before in
+    let few : l .loop .d < desks = omega arith in
+    sym (every-false desks _ (l .loop .d) few (share-past (l .before .tally .ensures) (l .loop .d) few (omega arith)))
+
+add-d : tie.Need-add-d Inv-loop μ-loop
+add-d c = search needs
+
+loop-less : tie.Need-loop-less Inv-loop μ-loop
+loop-less c = search needs
+
+loop-again : tie.Need-loop-again Inv-loop μ-loop
+loop-again c =
+    let l = c .before .before in
+    (omega arith, every-more (l .loop .d) _ (l .loop .inv .1) (share-within (l .before .tally .ensures) (l .loop .d) (omega arith) (omega arith)))
+
+returns-2 : tie.Need-returns-2 Inv-loop μ-loop
+unfolding sharesKept
+returns-2 c = sym (every-end desks _ (c .before .loop .d) (c .before .loop .inv .1) (omega arith))
+
+pub shares-ok-spec : {M : Type 1} → statement M
+shares-ok-spec =
+    tie.close
+    (tie.spec
+    Inv-loop
+    μ-loop
+    tally-requires
+    loop-holds
+    mul-if1
+    array-read-if1
+    returns
+    add-d
+    loop-less
+    loop-again
+    returns-2)
