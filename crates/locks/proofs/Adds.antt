@@ -1,19 +1,15 @@
 -- A new lock: what `added` makes of a list, and which octets it changes in the store. Assumes nothing.
 use Prim.Native.Nat.{ℕ, suc, _+_, _*_, _≤_, _<_}
-use mathlib.Core.Path.{_≡_, refl, sym, ap, ap₂, _∙_}
+use mathlib.Core.Path.{_≡_, refl, sym, ap}
 use mathlib.Core.List.{List, [], _∷_, _++_}
-use mathlib.Core.Bool.{true, false, cond}
-use native.Mathlib.Numerals.{add-one}
 use native.Mathlib.Omega.{arith}
-use lib.Dec.{eqb, ltb}
 use borrow.Author.Tests.{eq-eqb, ne-eqb, lt-ltb, le-ltb}
 use lib.Seq.{getD-drop}
-use lib.ListN.{length, take, drop, length-append, length-drop}
+use lib.ListN.{length, drop, length-append, length-drop}
 use Rattle.octets.specs.Parts.{part, put, rows}
 use Rattle.octets.specs.Numbers.{Octets}
-use Rattle.octets.proofs.Puts.{part-length, put-part}
 use Rattle.locks.specs.declared.Lock.{Lock}
-use Rattle.locks.specs.Locks.{mostLocks, madeRoom, added, lockFrom, lockOctets, locksIn, locksOctets}
+use Rattle.locks.specs.Locks.{mostLocks, madeRoom, added, lockOctets, locksIn, locksOctets}
 use Rattle.locks.proofs.Stored.{locks-in-length, octets-locks-in, put-locks-in, put-snoc}
 
 -- ---- a list with a new lock

@@ -1,35 +1,17 @@
 -- Tests of the first n locks of an array, lock by lock: what is left to test at each turn of a loop. Assumes nothing.
 use Prim.Native.Nat.{ℕ, _+_, _≤_, _<_}
-use mathlib.Core.Path.{_≡_, refl, sym, ap, _∙_}
+use mathlib.Core.Path.{_≡_, ap, _∙_}
 use mathlib.Core.List.{List, [], _∷_}
-use mathlib.Core.Bool.{Bool, true, false, not, _&&_, _||_}
+use mathlib.Core.Bool.{Bool, true, false}
 use native.Mathlib.Numerals.{add-one}
 use native.Mathlib.Omega.{arith}
-use lib.Dec.{eqb, leb}
-use borrow.Author.Tests.{eq-eqb, ne-eqb, le-leb, lt-leb}
+use borrow.Author.Tests.{eq-eqb, ne-eqb}
 use lib.ListN.{length, take, drop, getD, drop-of-length-le}
 use lib.Seq.{drop-cons, length-take-le, getD-take}
 use Rattle.octets.specs.Tests.{all}
 use Rattle.locks.specs.declared.Lock.{Lock}
-use Rattle.locks.specs.Locks.{locked, lockLegal, distinct, lookupFrom}
+use Rattle.locks.specs.Locks.{locked, distinct, lookupFrom}
 use Rattle.locks.proofs.Lookups.{locked-cons}
-
--- ---- the ticks of one lock
-
-module _ (valid : ℕ) (l : Lock) where
-  pub ticks-none : l .left ≡ 0 → lockLegal valid l ≡ false
-  unfolding lockLegal
-  ticks-none e = rw e
-
-  pub ticks-over : valid < l .left → lockLegal valid l ≡ false
-  unfolding lockLegal
-  ticks-over h = rw (le-leb 1 (l .left) (omega arith), lt-leb (l .left) valid h)
-
-  pub ticks-right : (l .left ≡ 0 → ⊥) → l .left ≤ valid → lockLegal valid l ≡ true
-  unfolding lockLegal
-  ticks-right n h = rw (le-leb 1 (l .left) (omega arith), le-leb (l .left) valid h)
-
--- ---- the first n
 
 module _ (a : List Lock) (n : ℕ) (d : Lock) (within : n ≤ length a) where
   next : (i : ℕ) → i < n → drop i (take n a) ≡ getD a i d ∷ drop (i + 1) (take n a)

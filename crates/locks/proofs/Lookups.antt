@@ -2,7 +2,7 @@
 use mathlib.Core.Path.{_≡_, refl, sym, _∙_, ap}
 use mathlib.Core.Bool.{Bool, true, false, cond, _||_}
 use mathlib.Core.List.{List, [], _∷_}
-use Prim.Native.Nat.{ℕ, _+_, _≤_, _<_}
+use Prim.Native.Nat.{ℕ, suc, _+_, _≤_, _<_}
 use native.Mathlib.Numerals.{add-one}
 use lib.Dec.{eqb}
 use lib.ListN.{length, drop, getD, drop-of-length-le}
@@ -13,11 +13,15 @@ use Rattle.locks.specs.Locks.{lookupFrom, isFound, locked}
 
 -- ---- a search, lock by lock
 
+pub lookup-cons : (k uid : ℕ) (l : Lock) (ls : List Lock) → lookupFrom k uid (l ∷ ls) ≡ cond (eqb (l .uid) uid) (At k (l .left)) (lookupFrom (k + 1) uid ls)
+unfolding lookupFrom
+lookup-cons k uid l ls = refl
+
 module _ (ls : List Lock) (i uid : ℕ) (d : Lock) (h : i < length ls) where
   find-next : lookupFrom i uid (drop i ls) ≡ cond (eqb (getD ls i d .uid) uid) (At i (getD ls i d .left)) (lookupFrom (i + 1) uid (drop (i + 1) ls))
-  unfolding lookupFrom
   find-next =
       ap (lookupFrom i uid) (drop-cons ls i d h)
+      ∙ lookup-cons i uid (getD ls i d) (drop (suc i) ls)
       ∙ ap (λ (k : ℕ). cond (eqb (getD ls i d .uid) uid) (At i (getD ls i d .left)) (lookupFrom (i + 1) uid (drop k ls))) (sym (add-one i))
 
   pub find-here : eqb (getD ls i d .uid) uid ≡ true → lookupFrom i uid (drop i ls) ≡ At i (getD ls i d .left)
@@ -35,7 +39,7 @@ find-none ls i uid h = ap (lookupFrom i uid) (drop-of-length-le ls h)
 found-from : (k j uid : ℕ) (ls : List Lock) → isFound (lookupFrom k uid ls) ≡ isFound (lookupFrom j uid ls)
 unfolding lookupFrom
 found-from k j uid [] = refl
-found-from k j uid (l ∷ ls) = go (eqb (l .uid) uid) (found-from (k + 1) (j + 1) uid ls)
+found-from k j uid (l ∷ ls) = rw (lookup-cons k uid l ls, lookup-cons j uid l ls) (go (eqb (l .uid) uid) (found-from (k + 1) (j + 1) uid ls))
   where
     go : (b : Bool) → isFound (lookupFrom (k + 1) uid ls) ≡ isFound (lookupFrom (j + 1) uid ls)
         → isFound (cond b (At k (l .left)) (lookupFrom (k + 1) uid ls)) ≡ isFound (cond b (At j (l .left)) (lookupFrom (j + 1) uid ls))
@@ -43,8 +47,7 @@ found-from k j uid (l ∷ ls) = go (eqb (l .uid) uid) (found-from (k + 1) (j + 1
     go false e = e
 
 pub locked-cons : (uid : ℕ) (l : Lock) (ls : List Lock) → locked uid (l ∷ ls) ≡ (eqb (l .uid) uid || locked uid ls)
-unfolding lookupFrom
-locked-cons uid l ls = go (eqb (l .uid) uid)
+locked-cons uid l ls = rw lookup-cons (go (eqb (l .uid) uid))
   where
     go : (b : Bool) → isFound (cond b (At 0 (l .left)) (lookupFrom (0 + 1) uid ls)) ≡ (b || locked uid ls)
     go true = refl

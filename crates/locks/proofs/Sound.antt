@@ -1,20 +1,22 @@
 -- Sound lists of locks: what the tests tell, as facts with names, and back; a tick and a new lock keep a list sound. Assumes nothing.
-use Prim.Native.Nat.{ℕ, suc, _-_, _^_, _≤_, _<_}
+use Prim.Native.Nat.{ℕ, _*_, _≤_, _<_}
 use mathlib.Core.Path.{_≡_, refl, sym, ap, _∙_}
 use mathlib.Core.List.{List, [], _∷_, _++_}
-use mathlib.Core.Bool.{Bool, true, false, cond, not, _&&_, _||_}
+use mathlib.Core.Bool.{Bool, true, false, cond, not}
 use native.Mathlib.Omega.{arith}
 use lib.Dec.{eqb, ltb, leb, lit<}
-use borrow.Author.Tests.{ltb-true, ltb-false, leb-true, eqb-true, eqb-false, le-leb, ne-eqb, not-true}
-use lib.ListN.{length, drop, length-append}
+use borrow.Author.Tests.{ltb-true, leb-true, eqb-false, le-leb, ne-eqb, not-true}
+use lib.ListN.{length, drop, length-append, length-drop}
 use Rattle.octets.specs.Tests.{all}
-use Rattle.octets.proofs.Tests.{and-left, and-right, and-both, or-left, or-right}
+use Rattle.octets.specs.Parts.{put}
+use Rattle.octets.specs.Numbers.{Octets}
+use Rattle.octets.proofs.Tests.{both, and-left, and-right, and-both, or-left, or-right}
 use Rattle.octets.proofs.Each.{All, all-facts, all-test, all-append, all-drop}
 use Rattle.locks.specs.declared.Lock.{Lock}
-use Rattle.locks.specs.Locks.{aged, sweptOf, lookupFrom, locked, mostLocks, madeRoom, added, lockLegal, distinct, locksLegal}
+use Rattle.locks.specs.Locks.{aged, sweptOf, lookupFrom, locked, mostLocks, madeRoom, added, lockLegal, distinct, locksLegal, lockWidth, locksIn, locksOctets}
 use Rattle.locks.proofs.Lookups.{locked-cons}
 use Rattle.locks.proofs.Sweeps.{swept-length}
-use Rattle.locks.proofs.Stored.{LockFits}
+use Rattle.locks.proofs.Stored.{LockFits, locks-in-length, locks-in-fit, locks-put}
 
 pub record LockLegal (valid : ℕ) (l : Lock) : Type 0 where
   pub low : 1 ≤ l .left
@@ -31,16 +33,22 @@ pub record LocksLegal (valid : ℕ) (ls : List Lock) : Type 0 where
 
 -- ---- from a test to its facts, and back
 
-lock-facts : (valid : ℕ) (l : Lock) → lockLegal valid l ≡ true → LockLegal valid l
+pub lock-facts : (valid : ℕ) (l : Lock) → lockLegal valid l ≡ true → LockLegal valid l
 unfolding lockLegal
-lock-facts valid l e = record {
-  low = leb-true 1 (l .left) (and-left (leb 1 (l .left)) (leb (l .left) valid) e);
-  high = leb-true (l .left) valid (and-right (leb 1 (l .left)) (leb (l .left) valid) e);
-}
+lock-facts valid l e =
+    let t = both (leb 1 (l .left)) (leb (l .left) valid) e in
+    record { low = leb-true 1 (l .left) (t .0); high = leb-true (l .left) valid (t .1) }
 
-lock-test : (valid : ℕ) (l : Lock) → LockLegal valid l → lockLegal valid l ≡ true
+pub lock-test : (valid : ℕ) (l : Lock) → LockLegal valid l → lockLegal valid l ≡ true
 unfolding lockLegal
 lock-test valid l p = and-both _ _ (le-leb 1 (l .left) (p .low)) (le-leb (l .left) valid (p .high))
+
+pub lock-fails : (valid : ℕ) (l : Lock) → (LockLegal valid l → ⊥) → lockLegal valid l ≡ false
+lock-fails valid l n = go (lockLegal valid l) refl
+  where
+    go : (b : Bool) → lockLegal valid l ≡ b → b ≡ false
+    go true e = absurd (n (lock-facts valid l e))
+    go false e = refl
 
 distinct-facts : (ls : List Lock) → distinct ls ≡ true → Distinct ls
 unfolding distinct
@@ -188,3 +196,23 @@ module _ (valid uid : ℕ) where
       added-keeps (All LockFits) uid valid ls p
       (λ v h. all-append LockFits ls (new ∷ []) p (f, tt))
       (λ v. all-append LockFits (drop 1 ls) (new ∷ []) (all-drop LockFits 1 ls p) (f, tt))
+
+  pub added-few : (ls : List Lock) → length ls ≤ mostLocks → length (added uid valid ls) ≤ mostLocks
+  added-few ls h =
+      added-keeps (λ (ks : List Lock). length ks ≤ mostLocks) uid valid ls h
+      (λ v r. simp length-append (omega arith))
+      (λ v. simp (length-append, length-drop) (omega arith))
+
+-- ---- in the store: what a tick and a new lock wrote is read back
+
+module _ (n : ℕ) (p : List ℕ) (octet : Octets p) where
+  pub ticked-back : lockWidth * n ≤ length p → locksIn (length (sweptOf (locksIn n p))) (put 0 (locksOctets (sweptOf (locksIn n p))) p) ≡ sweptOf (locksIn n p)
+  ticked-back h =
+      locks-put (sweptOf (locksIn n p)) p (swept-fit (locksIn n p) (locks-in-fit n p octet h)) (omega (arith, swept-length (locksIn n p), locks-in-length n p))
+
+  pub added-back : (uid valid : ℕ) → LockFits (record { uid = uid; left = valid }) → n ≤ mostLocks → 640 ≤ length p
+      → locksIn (length (added uid valid (locksIn n p))) (put 0 (locksOctets (added uid valid (locksIn n p))) p) ≡ added uid valid (locksIn n p)
+  added-back uid valid f few h =
+      let l : length (locksIn n p) ≡ n = locks-in-length n p in
+      locks-put (added uid valid (locksIn n p)) p (added-fit valid uid (locksIn n p) f (locks-in-fit n p octet (omega arith)))
+      (omega (arith, added-few valid uid (locksIn n p) (omega arith)))

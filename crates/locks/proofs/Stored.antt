@@ -1,12 +1,12 @@
 -- Locks as octets in the store, there and back. Assumes nothing.
-use Prim.Native.Nat.{ℕ, zero, suc, _+_, _*_, _^_, _≤_, _<_}
+use Prim.Native.Nat.{ℕ, _+_, _*_, _^_, _≤_, _<_}
 use mathlib.Core.Path.{_≡_, refl, sym, ap, ap₂, _∙_}
 use mathlib.Core.List.{List, [], _∷_, _++_, map, map-append}
 use native.Mathlib.Numerals.{add-one}
 use native.Mathlib.Nat.{zero-add, add-zero}
 use lib.Dec.{lit<}
 use native.Mathlib.Omega.{arith}
-use lib.ListN.{length, take, drop, set, getD, length-append, length-map, length-take, length-drop}
+use lib.ListN.{length, take, drop, set, getD, length-append, length-map}
 use lib.Seq.{take-suc, take-suc-set, length-take-le, take-at, drop-at, take-all, take-add}
 use Rattle.octets.specs.Parts.{part, put, rows, concat}
 use Rattle.octets.specs.Numbers.{number, octets, u16At, Octets}

@@ -10,7 +10,7 @@ use native.Mathlib.Omega.{arith}
 use lib.Dec.{leb}
 use borrow.Author.Tests.{leb-true, le-leb}
 use Rattle.octets.specs.Parts.{Apart}
-use Rattle.octets.specs.Areas.{apartb, clear, tab, change}
+use Rattle.octets.specs.Areas.{apartb, clear, upto, change}
 use Rattle.octets.proofs.Every.{every-at, every-all}
 
 either : (a b : Bool) → a || b ≡ true → (a ≡ true) ⊎ (b ≡ true)
@@ -39,25 +39,25 @@ apart-clear m at n h = every-all m _ (λ j hj. every-all j _ (λ i hi. apart-apa
 
 -- ---- a list by its elements
 
-pub tab-same : (n : ℕ) (f g : ℕ → List ℕ) → ((j : ℕ) → j < n → g j ≡ f j) → tab n g ≡ tab n f
-unfolding tab
-tab-same zero f g h = refl
-tab-same (suc n) f g h = ap₂ _∷_ (h 0 (omega arith)) (tab-same n (λ k. f (suc k)) (λ k. g (suc k)) (λ j l. h (suc j) (omega arith)))
+pub upto-same : (n : ℕ) (f g : ℕ → List ℕ) → ((j : ℕ) → j < n → g j ≡ f j) → upto n g ≡ upto n f
+unfolding upto
+upto-same zero f g h = refl
+upto-same (suc n) f g h = ap₂ _∷_ (h 0 (omega arith)) (upto-same n (λ k. f (suc k)) (λ k. g (suc k)) (λ j l. h (suc j) (omega arith)))
 
-pub tab-at : (n : ℕ) (f : ℕ → List ℕ) (k : ℕ) → k < n → getD (tab n f) k [] ≡ f k
-unfolding tab
-tab-at zero f k l = absurd (omega arith)
-tab-at (suc n) f zero l = refl
-tab-at (suc n) f (suc k) l = tab-at n (λ k. f (suc k)) k (omega arith)
+pub upto-at : (n : ℕ) (f : ℕ → List ℕ) (k : ℕ) → k < n → getD (upto n f) k [] ≡ f k
+unfolding upto
+upto-at zero f k l = absurd (omega arith)
+upto-at (suc n) f zero l = refl
+upto-at (suc n) f (suc k) l = upto-at n (λ k. f (suc k)) k (omega arith)
 
 -- where one element differs
-tab-set : (n : ℕ) (f g : ℕ → List ℕ) (k : ℕ) (y : List ℕ) → k < n → g k ≡ y → ((j : ℕ) → j < n → (k ≡ j → ⊥) → g j ≡ f j) → tab n g ≡ set (tab n f) k y
-unfolding tab
-tab-set zero f g k y l e h = absurd (omega arith)
-tab-set (suc n) f g zero y l e h = ap₂ _∷_ e (tab-same n (λ k. f (suc k)) (λ k. g (suc k)) (λ j b. h (suc j) (omega arith) (omega arith)))
-tab-set (suc n) f g (suc k) y l e h =
+upto-set : (n : ℕ) (f g : ℕ → List ℕ) (k : ℕ) (y : List ℕ) → k < n → g k ≡ y → ((j : ℕ) → j < n → (k ≡ j → ⊥) → g j ≡ f j) → upto n g ≡ set (upto n f) k y
+unfolding upto
+upto-set zero f g k y l e h = absurd (omega arith)
+upto-set (suc n) f g zero y l e h = ap₂ _∷_ e (upto-same n (λ k. f (suc k)) (λ k. g (suc k)) (λ j b. h (suc j) (omega arith) (omega arith)))
+upto-set (suc n) f g (suc k) y l e h =
     ap₂ _∷_ (h 0 (omega arith) (omega arith))
-    (tab-set n (λ k. f (suc k)) (λ k. g (suc k)) k y (omega arith) e (λ j b ne. h (suc j) (omega arith) (λ q. ne (omega arith))))
+    (upto-set n (λ k. f (suc k)) (λ k. g (suc k)) k y (omega arith) e (λ j b ne. h (suc j) (omega arith) (λ q. ne (omega arith))))
 
-pub tab-change : (n : ℕ) (f f′ : ℕ → List ℕ) (k : ℕ) (g : List ℕ → List ℕ) → k < n → f′ k ≡ g (f k) → ((j : ℕ) → j < n → (k ≡ j → ⊥) → f′ j ≡ f j) → tab n f′ ≡ change k g (tab n f)
-tab-change n f f′ k g l e h = rw (tab-at n f k l) (tab-set n f f′ k (g (f k)) l e h)
+pub upto-change : (n : ℕ) (f f′ : ℕ → List ℕ) (k : ℕ) (g : List ℕ → List ℕ) → k < n → f′ k ≡ g (f k) → ((j : ℕ) → j < n → (k ≡ j → ⊥) → f′ j ≡ f j) → upto n f′ ≡ change k g (upto n f)
+upto-change n f f′ k g l e h = rw (upto-at n f k l) (upto-set n f f′ k (g (f k)) l e h)

@@ -21,9 +21,9 @@ abbrev pub clear : ℕ → (ℕ → ℕ) → (ℕ → ℕ) → Bool
 clear m at n = every m (clearBelow at n)
 
 -- f 0 to f (n - 1)
-unfoldable pub tab : ℕ → (ℕ → List ℕ) → List (List ℕ)
-tab zero f = []
-tab (suc n) f = f 0 ∷ tab n (λ k. f (suc k))
+unfoldable pub upto : ℕ → (ℕ → List ℕ) → List (List ℕ)
+upto zero f = []
+upto (suc n) f = f 0 ∷ upto n (λ k. f (suc k))
 
 -- the list with g done to element k
 abbrev pub change : ℕ → (List ℕ → List ℕ) → List (List ℕ) → List (List ℕ)

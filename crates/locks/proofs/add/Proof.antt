@@ -5,10 +5,6 @@ use borrow.Author.Needs.{needs}
 use Rattle.locks.proofs.Adds.{adds-none, adds-room, adds-full}
 use Rattle.locks.proofs.add.Statement.{statement}
 use Rattle.locks.proofs.add.Tie as tie
-use Rattle.locks.proofs.add.Reads as reads
-use Rattle.locks.proofs.add.Lts as lts
-use Rattle.locks.proofs.drop_first.Reads as drop-first-reads
-use Rattle.locks.proofs.write_lock.Reads as write-lock-reads
 
 returns : tie.Need-returns
 returns c =
@@ -22,7 +18,7 @@ returns-2 c =
     let t = w .before .before in
     let k = t .before .before in
     let s = k .before in
-    let e = adds-room (s .args .uid) (s .args .valid) (s .args .n) (s .args .p .now) (λ i. k .slice-known .given i .fits) (s .pre .0) (s .pre .1) (t .before .if1 .left) (t .if2 .taken) in
+    let e = adds-room (s .args .uid) (s .args .valid) (s .args .n) (s .args .p .now) (λ i. k .slice-known .given i .fits) (s .pre .0) (s .pre .1) (t .before .if1 .left) (omega arith) in
     (e .0, w .write-lock .ensures ∙ e .1)
 
 returns-3 : tie.Need-returns-3
@@ -32,7 +28,7 @@ returns-3 c =
     let t = d .before .before in
     let k = t .before .before in
     let s = k .before in
-    let e = adds-full (s .args .uid) (s .args .valid) (s .args .n) (s .args .p .now) (λ i. k .slice-known .given i .fits) (s .pre .0) (s .pre .1) (t .before .if1 .left) (t .if2 .left) in
+    let e = adds-full (s .args .uid) (s .args .valid) (s .args .n) (s .args .p .now) (λ i. k .slice-known .given i .fits) (s .pre .0) (s .pre .1) (t .before .if1 .left) (omega arith) in
     (e .0, w .write-lock2 .ensures ∙ rw (d .drop-first .ensures) (e .1))
 
 pub add-spec : {M : Type 1} → statement M

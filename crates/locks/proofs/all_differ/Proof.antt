@@ -1,17 +1,15 @@
 -- `locks::all_differ` meets its contract: before each turn of the outer loop the whole is what is left to test, and before each turn
 -- of the inner one whether the UID stands behind its lock is whether it stands from j on. Assumes nothing.
-use mathlib.Core.Path.{_≡_, refl, sym, ap, _∙_}
-use Prim.Native.Nat.{_+_, _≤_, _<_, _-_}
+use mathlib.Core.Path.{_≡_, refl, sym, _∙_}
+use Prim.Native.Nat.{_+_, _≤_, _-_}
 use native.Mathlib.Omega.{arith}
-use lib.ListN.{length, take, drop, getD}
+use lib.ListN.{length, take, drop}
 use borrow.Author.Needs.{needs}
 use Rattle.locks.specs.Locks.{locked, distinct}
 use Rattle.locks.proofs.Fronts.{stands-here, stands-later, stands-end, twice, once, distinct-end}
 use Rattle.locks.proofs.Lent.{none}
 use Rattle.locks.proofs.all_differ.Statement.{statement}
 use Rattle.locks.proofs.all_differ.Tie as tie
-use Rattle.locks.proofs.all_differ.Reads as reads
-use Rattle.locks.proofs.all_differ.Lts as lts
 
 abbrev Inv-loop : tie.InvT-loop
 Inv-loop n a i₀ i = (i ≤ n) × (n ≤ length a) × (distinct (take n a) ≡ distinct (drop i (take n a)))

@@ -10,7 +10,7 @@ use lib.ListN.{length, take, getD, set, length-set}
 use lib.Seq.{take-all, length-take-le}
 use borrow.Author.Needs.{needs}
 use Rattle.octets.specs.Parts.{part, put}
-use Rattle.octets.proofs.Puts.{put-length, put-more, part-length, part-at, part-put-away}
+use Rattle.octets.proofs.Puts.{put-more, part-length, part-at, part-put-away}
 use Rattle.locks.proofs.drop_first.Statement.{statement}
 use Rattle.locks.proofs.drop_first.Tie as tie
 

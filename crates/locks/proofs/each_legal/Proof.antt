@@ -6,12 +6,11 @@ use lib.ListN.{length, take, drop}
 use borrow.Author.Needs.{needs}
 use Rattle.octets.specs.Tests.{all}
 use Rattle.locks.specs.Locks.{lockLegal}
-use Rattle.locks.proofs.Fronts.{ticks-none, ticks-over, ticks-right, each-fails, each-holds, each-end}
+use Rattle.locks.proofs.Sound.{lock-fails, lock-test}
+use Rattle.locks.proofs.Fronts.{each-fails, each-holds, each-end}
 use Rattle.locks.proofs.Lent.{none}
 use Rattle.locks.proofs.each_legal.Statement.{statement}
 use Rattle.locks.proofs.each_legal.Tie as tie
-use Rattle.locks.proofs.each_legal.Reads as reads
-use Rattle.locks.proofs.each_legal.Lts as lts
 
 abbrev Inv-loop : tie.InvT-loop
 Inv-loop n valid a i₀ i = (i ≤ n) × (n ≤ length a) × (all (lockLegal valid) (take n a) ≡ all (lockLegal valid) (drop i (take n a)))
@@ -27,21 +26,21 @@ returns c =
     let t = c .before .before .before in
     let l = t .before .loop in
     let a = t .before .before .args in
-    sym (l .inv .2 ∙ each-fails (a .t1) (a .n) none (l .inv .1) (lockLegal (a .valid)) (l .i) (t .loop-test .taken) (ticks-none (a .valid) _ (c .if1 .taken)))
+    sym (l .inv .2 ∙ each-fails (a .t1) (a .n) none (l .inv .1) (lockLegal (a .valid)) (l .i) (t .loop-test .taken) (lock-fails (a .valid) _ (λ q. omega (arith, q .low))))
 
 returns-2 : tie.Need-returns-2 Inv-loop μ-loop
 returns-2 c =
     let t = c .before .before .before .before .before in
     let l = t .before .loop in
     let a = t .before .before .args in
-    sym (l .inv .2 ∙ each-fails (a .t1) (a .n) none (l .inv .1) (lockLegal (a .valid)) (l .i) (t .loop-test .taken) (ticks-over (a .valid) _ (c .if2 .taken)))
+    sym (l .inv .2 ∙ each-fails (a .t1) (a .n) none (l .inv .1) (lockLegal (a .valid)) (l .i) (t .loop-test .taken) (lock-fails (a .valid) _ (λ q. omega (arith, q .high))))
 
 loop-again : tie.Need-loop-again Inv-loop μ-loop
 loop-again c =
     let t = c .before .before .before .before .before in
     let l = t .before .loop in
     let a = t .before .before .args in
-    (omega arith, l .inv .1, l .inv .2 ∙ each-holds (a .t1) (a .n) none (l .inv .1) (lockLegal (a .valid)) (l .i) (t .loop-test .taken) (ticks-right (a .valid) _ (c .before .before .if1 .left) (c .if2 .left)))
+    (omega arith, l .inv .1, l .inv .2 ∙ each-holds (a .t1) (a .n) none (l .inv .1) (lockLegal (a .valid)) (l .i) (t .loop-test .taken) (lock-test (a .valid) _ (record { low = omega arith; high = omega arith })))
 
 returns-3 : tie.Need-returns-3 Inv-loop μ-loop
 returns-3 c =

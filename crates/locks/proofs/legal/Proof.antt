@@ -11,8 +11,6 @@ use Rattle.locks.proofs.Stored.{locks-in-length}
 use Rattle.locks.proofs.Sound.{legal-fails, legal-distinct}
 use Rattle.locks.proofs.legal.Statement.{statement}
 use Rattle.locks.proofs.legal.Tie as tie
-use Rattle.locks.proofs.legal.Reads as reads
-use Rattle.locks.proofs.legal.Lts as lts
 
 -- the list is of n locks
 few : (c : tie.After-load) → length (locksIn (c .before .before .args .n) (c .before .before .args .p .now)) ≤ mostLocks

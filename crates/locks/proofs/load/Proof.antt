@@ -1,5 +1,5 @@
 -- `locks::load` meets its contract. After i turns the first i of the array are the first i locks of the store. Assumes nothing.
-use mathlib.Core.Path.{_≡_, refl, sym, ap, _∙_}
+use mathlib.Core.Path.{_≡_, refl}
 use Prim.Native.Nat.{_≤_, _-_}
 use native.Mathlib.Omega.{arith}
 use mathlib.Core.List.{[]}
@@ -9,9 +9,6 @@ use Rattle.locks.specs.Locks.{locksIn}
 use Rattle.locks.proofs.Stored.{loaded-none, loaded-more}
 use Rattle.locks.proofs.load.Statement.{statement}
 use Rattle.locks.proofs.load.Tie as tie
-use Rattle.locks.proofs.load.Reads as reads
-use Rattle.locks.proofs.load.Lts as lts
-use Rattle.locks.proofs.read_lock.Reads as read-lock-reads
 
 abbrev Inv-loop : tie.InvT-loop
 Inv-loop p n a₀ i₀ a i = (i ≤ n) × (length a ≡ 64) × (take i a ≡ locksIn i p)

@@ -1,19 +1,15 @@
 -- `locks::save` meets its contract. After i turns the first i locks are put. Assumes nothing.
-use mathlib.Core.Path.{_≡_, refl, sym, ap, _∙_}
+use mathlib.Core.Path.{_≡_, refl, _∙_}
 use Prim.Native.Nat.{_≤_, _-_}
 use native.Mathlib.Omega.{arith}
 use mathlib.Core.List.{[]}
 use lib.ListN.{length, take}
 use borrow.Author.Needs.{needs}
 use Rattle.octets.specs.Parts.{put}
-use Rattle.octets.proofs.Puts.{put-length}
 use Rattle.locks.specs.Locks.{locksOctets}
 use Rattle.locks.proofs.Stored.{saved-none, saved-more}
 use Rattle.locks.proofs.save.Statement.{statement}
 use Rattle.locks.proofs.save.Tie as tie
-use Rattle.locks.proofs.save.Reads as reads
-use Rattle.locks.proofs.save.Lts as lts
-use Rattle.locks.proofs.write_lock.Reads as write-lock-reads
 
 abbrev Inv-loop : tie.InvT-loop
 Inv-loop p₀ n a i₀ p i = (i ≤ n) × (n ≤ length a) × (length p ≡ length p₀) × (p ≡ put 0 (locksOctets (take i a)) p₀)

@@ -12,8 +12,6 @@ use Rattle.locks.proofs.Sweeps.{swept-length, sweep-front}
 use Rattle.locks.proofs.Stored.{locks-in-length}
 use Rattle.locks.proofs.tick.Statement.{statement}
 use Rattle.locks.proofs.tick.Tie as tie
-use Rattle.locks.proofs.tick.Reads as reads
-use Rattle.locks.proofs.tick.Lts as lts
 
 -- how many are left
 count : (c : tie.After-after-sweep) → c .after-sweep .result .n ≡ length (sweptOf (locksIn (c .before .before .before .before .args .n) (c .before .before .before .before .args .p .now)))
