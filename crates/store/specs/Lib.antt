@@ -1,0 +1,5 @@
+pub mod Layout
+pub mod Rows
+pub mod View
+pub mod Sound
+pub mod Fresh

@@ -1,0 +1,49 @@
+-- What a store says: the box of the rules, wherever its areas lie. Assumes nothing.
+use Prim.Native.Nat.{ℕ, suc}
+use mathlib.Core.List.{List, [], _∷_}
+use lib.ListN.{getD}
+use lib.Dec.{eqb}
+use Rattle.octets.specs.Parts.{rows}
+use Rattle.octets.specs.Numbers.{number}
+use Rattle.timer.specs.Clock.{timerFrom}
+use Rattle.locks.specs.Locks.{locksIn}
+use Rattle.table.specs.Entries.{desks, entries, recordsOf}
+use Rattle.rules.specs.Desk.{Desk, Table}
+use Rattle.rules.specs.Box.{Box}
+use Rattle.store.specs.Layout.{rowWidth, usedOf, areas}
+use Rattle.store.specs.Rows.{fields}
+
+-- the desk that the fields of a row say, with the records rs
+unfoldable pub deskOf : List (List ℕ) → List (List ℕ) → Desk
+deskOf fs rs =
+    record {
+      ram = getD fs 0 [];
+      eeprom = getD fs 1 [];
+      valid = number (getD fs 2 []);
+      loggedIn = eqb (number (getD fs 3 [])) 1;
+      timer = timerFrom (getD fs 4 []);
+      locks = locksIn (number (getD fs 8 [])) (getD fs 9 []);
+      table =
+          record { held = rs; overflow = eqb (number (getD fs 5 [])) 1; due = number (getD fs 6 []); start = number (getD fs 7 []) };
+    }
+
+abbrev pub deskIn : List ℕ → List (List ℕ) → Desk
+deskIn row rs = deskOf (fields row) rs
+
+-- desk d and those after it, each with its own records of es
+unfoldable pub boxFrom : ℕ → List (List ℕ) → List (List ℕ) → Box
+boxFrom d [] es = []
+boxFrom d (row ∷ rest) es = deskIn row (recordsOf d es) ∷ boxFrom (suc d) rest es
+
+-- by the areas: the rows, and the entries in use
+abbrev pub rowsIn : List (List ℕ) → List (List ℕ)
+rowsIn all = rows desks rowWidth (getD all 1 [])
+
+abbrev pub entriesIn : List (List ℕ) → List (List ℕ)
+entriesIn all = entries (usedOf (getD all 0 [])) (getD all 2 [])
+
+unfoldable pub viewOf : List (List ℕ) → Box
+viewOf all = boxFrom 0 (rowsIn all) (entriesIn all)
+
+unfoldable pub view : List ℕ → Box
+view s = viewOf (areas s)
