@@ -133,3 +133,10 @@ pub rows-octets : (m n : ℕ) (s : List ℕ) → Octets s → All Octets (rows m
 unfolding rows part
 rows-octets zero n s h = tt
 rows-octets (suc m) n s h = (octets-part 0 n s h, rows-octets m n (drop n s) (λ i. rw getD-drop (h (n + i))))
+
+-- row d is a part
+pub rows-at : (m n d : ℕ) (s : List ℕ) → d < m → getD (rows m n s) d [] ≡ part (n * d) n s
+unfolding rows part
+rows-at zero n d s h = absurd (omega arith)
+rows-at (suc m) n zero s h = rw mul-zero
+rows-at (suc m) n (suc d) s h = rows-at m n d (drop n s) (omega arith) ∙ rw (mul-suc, add-comm (n * d) n, drop-drop)

@@ -1,1 +1,5 @@
 pub mod Headers
+pub mod Places
+pub mod Boxes
+pub mod Changes
+pub mod Anew

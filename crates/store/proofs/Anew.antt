@@ -1,0 +1,148 @@
+-- A desk's row anew, or the entries anew: the store stays sound, and the view changes at that desk alone. Assumes nothing.
+use Prim.Native.Nat.{ℕ, suc, _+_, _*_, _≤_, _<_}
+use mathlib.Core.Path.{_≡_, refl, sym, ap, _∙_}
+use mathlib.Core.List.{List, [], _∷_}
+use mathlib.Core.Bool.{true, _&&_}
+use native.Mathlib.Nat.{add-zero, zero-add, mul-comm}
+use native.Mathlib.Decide.{ℕ-discrete}
+use native.Mathlib.Omega.{arith}
+use lib.ListN.{length, getD, set}
+use lib.Seq.{getD-set-same, getD-set-other}
+use lib.Dec.{lit<}
+use Rattle.octets.specs.Parts.{part, put, rows}
+use Rattle.octets.specs.Numbers.{octets}
+use Rattle.octets.specs.Areas.{upto, change}
+use Rattle.octets.proofs.Puts.{put-length, put-whole, part-length, part-part}
+use Rattle.octets.proofs.Rows.{rows-length, rows-put, rows-at}
+use Rattle.table.specs.Entries.{desks, entryCount, entries, recordsOf}
+use Rattle.rules.specs.Desk.{freshDesk}
+use Rattle.rules.specs.Box.{deskAt}
+use Rattle.store.specs.Layout.{storeSize, rowWidth, sizeOf, header, startOf, usedOf, area, areas, rowAt}
+use Rattle.store.specs.View.{deskIn, boxFrom, rowsIn, entriesIn, viewOf, view}
+use Rattle.store.specs.Sound.{rowSound, tableSound, deskSound}
+use Rattle.store.proofs.Places.{used-counted, counted-fine}
+use Rattle.store.proofs.Boxes.{box-at, box-row, box-records}
+use Rattle.store.proofs.Changes.{Sound, area-length, area-0, into, into-area, header-kept, counted, header-counted, header-length, used-now, into-count}
+
+-- ---- a row, and the entries in use, of a store
+
+abbrev pub rowOf : ℕ → List ℕ → List ℕ
+rowOf d s = part (rowAt d s) rowWidth s
+
+abbrev pub inUse : List ℕ → List (List ℕ)
+inUse s = entriesIn (areas s)
+
+module _ (s : List ℕ) (f : Sound s) (d : ℕ) (h : d < desks) where
+  pub row-is : getD (rowsIn (areas s)) d [] ≡ rowOf d s
+  unfolding areas upto area
+  row-is = rows-at desks rowWidth d (area s 1) h ∙ part-part (rowWidth * d) rowWidth (startOf (header s) 1) (sizeOf 1) s (omega arith)
+
+  pub row-inside : rowAt d s + rowWidth ≤ length s
+  row-inside = omega (arith, f .head .within 1 (lit< tt), f .size)
+
+  pub row-length : length (rowOf d s) ≡ rowWidth
+  row-length = part-length (rowAt d s) rowWidth s row-inside
+
+  pub row-sound : rowSound (length (recordsOf d (inUse s))) (rowOf d s) ≡ true
+  row-sound = ap (rowSound (length (recordsOf d (inUse s)))) (sym row-is) ∙ f .each d h
+
+  -- what the store says of the desk
+  pub desk-is : deskAt (view s) d ≡ deskIn (rowOf d s) (recordsOf d (inUse s))
+  unfolding deskAt view viewOf
+  desk-is =
+      box-at 0 (rowsIn (areas s)) (inUse s) d freshDesk (omega (arith, rows-length desks rowWidth (getD (areas s) 1 [])))
+      ∙ ap (λ (r : List ℕ). deskIn r (recordsOf (0 + d) (inUse s))) row-is ∙ rw zero-add
+
+pub record Left (d : ℕ) (row : List ℕ) (rs : List (List ℕ)) (s s′ : List ℕ) : Type 0 where
+  pub still : Sound s′
+  pub now-view : view s′ ≡ set (view s) d (deskIn row rs)
+
+-- ---- the row of a desk anew
+
+module _ (s : List ℕ) (f : Sound s) (d : ℕ) (h : d < desks) (row : List ℕ) (l : length row ≡ rowWidth) where
+  rows-now : rowsIn (areas (put (rowAt d s) row s)) ≡ set (rowsIn (areas s)) d row
+  unfolding areas upto
+  rows-now =
+      let e : rowWidth * d ≡ d * rowWidth + 0 = omega arith in
+      ap rowsIn (into-area s (f .head) 1 (rowWidth * d) row (lit< tt) (omega arith) (lit< tt))
+      ∙ ap (λ (o : ℕ). rows desks rowWidth (put o row (area s 1))) e
+      ∙ rows-put desks rowWidth d 0 row (area s 1) h (omega arith)
+      ∙ ap (set (rows desks rowWidth (area s 1)) d) (put-whole row _ (l ∙ sym (ap length (rows-at desks rowWidth d (area s 1) h) ∙ part-length (rowWidth * d) rowWidth (area s 1) (omega (arith, area-length s f 1 (lit< tt))))))
+
+  entries-kept : inUse (put (rowAt d s) row s) ≡ inUse s
+  unfolding areas upto
+  entries-kept = ap entriesIn (into-area s (f .head) 1 (rowWidth * d) row (lit< tt) (omega arith) (lit< tt))
+
+  pub row-anew : rowSound (length (recordsOf d (inUse s))) row ≡ true → Left d row (recordsOf d (inUse s)) s (put (rowAt d s) row s)
+  unfolding view viewOf
+  row-anew e =
+      record {
+        still =
+            record {
+              size = put-length (rowAt d s) row s ∙ f .size;
+              head = rw (header-kept s (f .head) 1 (rowWidth * d) row (lit< tt) (omega arith) (lit< tt)) (f .head);
+              table = rw entries-kept (f .table);
+              each = λ c b. rw (rows-now, entries-kept) (sound-at c b (ℕ-discrete c d));
+            };
+        now-view = rw (rows-now, entries-kept) (box-row 0 (rowsIn (areas s)) (inUse s) d row ∙ rw zero-add);
+      }
+    where
+      size : length (rowsIn (areas s)) ≡ desks
+      size = rows-length desks rowWidth (getD (areas s) 1 [])
+
+      sound-at : (c : ℕ) → c < desks → Dec (c ≡ d) → deskSound (set (rowsIn (areas s)) d row) (inUse s) c ≡ true
+      sound-at c b (yes q) = rw (q, getD-set-same (rowsIn (areas s)) d row [] (omega (arith, size))) e
+      sound-at c b (no n) = rw (getD-set-other (rowsIn (areas s)) d c row [] n) (f .each c b)
+
+-- ---- the entries anew, with their count
+
+module _ (s : List ℕ) (f : Sound s) (d : ℕ) (h : d < desks) (t : List ℕ) (l : length t ≡ sizeOf 2) (n : ℕ) (few : n ≤ entryCount) where
+  -- the entries are written, and then the count
+  abbrev pub refilled : List ℕ
+  refilled = put (startOf (header s) 2) t s
+
+  head-kept : header refilled ≡ header s
+  head-kept = ap (λ (p : ℕ). header (put p t s)) (sym (add-zero (startOf (header s) 2))) ∙ header-kept s (f .head) 2 0 t (lit< tt) (omega arith) (lit< tt)
+
+  size-kept : length refilled ≡ storeSize
+  size-kept = put-length (startOf (header s) 2) t s ∙ f .size
+
+  areas-now : areas (counted n refilled) ≡ change 0 (put 4 (octets 2 n)) (change 2 (put 0 t) (areas s))
+  areas-now =
+      into-count refilled size-kept n few (rw head-kept (f .head))
+      ∙ ap (change 0 (put 4 (octets 2 n)))
+      (ap (λ (p : ℕ). areas (put p t s)) (sym (add-zero (startOf (header s) 2))) ∙ into-area s (f .head) 2 0 t (lit< tt) (omega arith) (lit< tt))
+
+  entries-now : inUse (counted n refilled) ≡ entries n t
+  unfolding areas upto
+  entries-now =
+      let whole : put 0 t (area s 2) ≡ t = put-whole t (area s 2) (l ∙ sym (area-length s f 2 (lit< tt))) in
+      let count : usedOf (put 4 (octets 2 n) (area s 0)) ≡ n = used-counted n (area s 0) few (area-length s f 0 (lit< tt)) in
+      ap entriesIn areas-now ∙ rw (whole, count)
+
+  rows-kept : rowsIn (areas (counted n refilled)) ≡ rowsIn (areas s)
+  unfolding areas upto
+  rows-kept = ap rowsIn areas-now
+
+  pub entries-anew : tableSound (entries n t) ≡ true → ((c : ℕ) → c < desks → (c ≡ d → ⊥) → recordsOf c (entries n t) ≡ recordsOf c (inUse s))
+      → rowSound (length (recordsOf d (entries n t))) (rowOf d s) ≡ true
+      → Left d (rowOf d s) (recordsOf d (entries n t)) s (counted n refilled)
+  unfolding view viewOf
+  entries-anew ok others e =
+      record {
+        still =
+            record {
+              size = put-length 4 (octets 2 n) refilled ∙ size-kept;
+              head = rw (header-counted refilled size-kept n few, head-kept) (counted-fine n (header s) (f .head) few (header-length s (f .size) n few));
+              table = rw entries-now ok;
+              each = λ c b. rw (rows-kept, entries-now) (sound-at c b (ℕ-discrete c d));
+            };
+        now-view = rw (rows-kept, entries-now) (box-records 0 (rowsIn (areas s)) (inUse s) (entries n t) d (omega (arith, size)) (λ c b ne. others c (omega (arith, size)) (λ q. ne (omega arith))) ∙ rw (zero-add, row-is s f d h));
+      }
+    where
+      size : length (rowsIn (areas s)) ≡ desks
+      size = rows-length desks rowWidth (getD (areas s) 1 [])
+
+      sound-at : (c : ℕ) → c < desks → Dec (c ≡ d) → deskSound (rowsIn (areas s)) (entries n t) c ≡ true
+      sound-at c b (yes q) = rw (q, row-is s f d h) e
+      sound-at c b (no ne) = rw (others c b ne) (f .each c b)

@@ -1,0 +1,114 @@
+-- What a write leaves of the store: the facts of a sound one, the areas after a put, a row anew, the entries anew. Assumes nothing.
+use Prim.Native.Nat.{ℕ, zero, suc, _+_, _*_, _≤_, _<_}
+use mathlib.Core.Path.{_≡_, refl, sym, ap, _∙_}
+use mathlib.Core.List.{List, [], _∷_}
+use mathlib.Core.Bool.{true, _&&_}
+use native.Mathlib.Nat.{zero-add, add-zero, mul-comm}
+use native.Mathlib.Decide.{ℕ-discrete}
+use native.Mathlib.Omega.{arith}
+use lib.ListN.{length, getD, set}
+use lib.Seq.{getD-set-same, getD-set-other}
+use lib.Dec.{eqb, lit<}
+use borrow.Author.Tests.{eqb-true, eq-eqb}
+use Rattle.octets.specs.Tests.{every}
+use Rattle.octets.specs.Parts.{part, put, rows}
+use Rattle.octets.specs.Numbers.{octets}
+use Rattle.octets.specs.Areas.{upto, change}
+use Rattle.octets.proofs.Tests.{and-left, and-right, and-both}
+use Rattle.octets.proofs.Every.{every-at, every-all}
+use Rattle.octets.proofs.Puts.{put-length, put-whole, part-length, part-put-away, part-put-in, part-part, apart-within}
+use Rattle.octets.proofs.Numbers.{octets-length}
+use Rattle.octets.proofs.Areas.{upto-at, upto-change}
+use Rattle.octets.proofs.Rows.{rows-length, rows-put, rows-at}
+use Rattle.table.specs.Entries.{width, desks, entryCount, entries, recordsOf}
+use Rattle.rules.specs.Desk.{Desk, freshDesk}
+use Rattle.rules.specs.Box.{Box, deskAt}
+use Rattle.store.specs.Layout.{storeSize, rowWidth, sizeOf, header, startOf, usedOf, area, areas, rowAt}
+use Rattle.store.specs.View.{deskIn, boxFrom, rowsIn, entriesIn, viewOf, view}
+use Rattle.store.specs.Sound.{fine, rowSound, tableSound, deskSound, contents, sound}
+use Rattle.store.proofs.Places.{Fine, fine-facts, fine-test, start-counted, used-counted, counted-fine}
+use Rattle.store.proofs.Boxes.{box-at, box-row, box-records}
+
+-- ---- the tests and the facts
+
+pub record Sound (s : List ℕ) : Type 0 where
+  pub size : length s ≡ storeSize
+  pub head : Fine (header s)
+  pub table : tableSound (entriesIn (areas s)) ≡ true
+  pub each : (d : ℕ) → d < desks → deskSound (rowsIn (areas s)) (entriesIn (areas s)) d ≡ true
+
+pub sound-facts : (s : List ℕ) → sound s ≡ true → Sound s
+unfolding sound contents
+sound-facts s e =
+    let h : fine (header s) ≡ true = search (and-left, and-right) in
+    let t : tableSound (entriesIn (areas s)) ≡ true = search (and-left, and-right) in
+    let r : every desks (deskSound (rowsIn (areas s)) (entriesIn (areas s))) ≡ true = search (and-left, and-right) in
+    record {
+      size = eqb-true (length s) storeSize (search (and-left, and-right));
+      head = fine-facts (header s) h;
+      table = t;
+      each = λ d l. every-at desks (deskSound (rowsIn (areas s)) (entriesIn (areas s))) d r l;
+    }
+
+pub sound-test : (s : List ℕ) → Sound s → sound s ≡ true
+unfolding sound contents
+sound-test s f =
+    rw (eq-eqb (length s) storeSize (f .size), fine-test (header s) (f .head), f .table,
+    every-all desks (deskSound (rowsIn (areas s)) (entriesIn (areas s))) (f .each))
+
+-- ---- the areas
+
+pub area-length : (s : List ℕ) → Sound s → (k : ℕ) → k < 3 → length (area s k) ≡ sizeOf k
+unfolding area
+area-length s f k l = part-length (startOf (header s) k) (sizeOf k) s (omega (arith, f .head .within k l, f .size))
+
+pub area-0 : (s : List ℕ) → area s 0 ≡ header s
+unfolding area startOf header
+area-0 s = refl
+
+-- s with xs written in area k from its octet o on
+abbrev pub into : ℕ → ℕ → List ℕ → List ℕ → List ℕ
+into k o xs s = put (startOf (header s) k + o) xs s
+
+module _ (s : List ℕ) (f : Fine (header s)) (k o : ℕ) (xs : List ℕ) (low : k < 3) (fit : o + length xs ≤ sizeOf k) where
+  -- what lies in another area stays
+  away : (j : ℕ) → j < 3 → (k ≡ j → ⊥) → part (startOf (header s) j) (sizeOf j) (into k o xs s) ≡ area s j
+  unfolding area
+  away j l ne =
+      part-put-away (startOf (header s) j) (sizeOf j) (startOf (header s) k + o) xs s
+      (apart-within _ _ _ _ (startOf (header s) k + o) (length xs) (startOf (header s) j) (sizeOf j) (f .apart k j low l ne) (omega arith) (omega arith) (omega arith) (omega arith))
+
+  areas-into : ((j : ℕ) → j < 3 → startOf (header (into k o xs s)) j ≡ startOf (header s) j) → areas (into k o xs s) ≡ change k (put o xs) (areas s)
+  unfolding areas area
+  areas-into p =
+      upto-change 3 (area s) (area (into k o xs s)) k (put o xs) low
+      (rw (p k low) (part-put-in (startOf (header s) k) (sizeOf k) o xs s fit))
+      (λ j l ne. rw (p j l) (away j l ne))
+
+  -- a put behind the header leaves it
+  pub header-kept : 0 < k → header (into k o xs s) ≡ header s
+  unfolding area startOf header
+  header-kept pos = away 0 (lit< tt) (omega arith)
+
+  pub into-area : 0 < k → areas (into k o xs s) ≡ change k (put o xs) (areas s)
+  into-area pos = areas-into (λ j l. rw (header-kept pos))
+
+-- s with the count c
+abbrev pub counted : ℕ → List ℕ → List ℕ
+counted c s = put 4 (octets 2 c) s
+
+module _ (s : List ℕ) (size : length s ≡ storeSize) (c : ℕ) (few : c ≤ entryCount) where
+  pub header-counted : header (counted c s) ≡ put 4 (octets 2 c) (header s)
+  unfolding header
+  header-counted = part-put-in 0 6 4 (octets 2 c) s (omega (arith, octets-length 2 c))
+
+  pub header-length : length (header s) ≡ 6
+  unfolding header
+  header-length = part-length 0 6 s (omega arith)
+
+  pub used-now : usedOf (header (counted c s)) ≡ c
+  used-now = rw header-counted (used-counted c (header s) few header-length)
+
+  pub into-count : Fine (header s) → areas (counted c s) ≡ change 0 (put 4 (octets 2 c)) (areas s)
+  unfolding startOf
+  into-count f = areas-into s f 0 4 (octets 2 c) (lit< tt) (omega (arith, octets-length 2 c)) (λ j l. rw header-counted (start-counted c (header s) j l))
