@@ -53,8 +53,12 @@ sound-facts s e =
 pub sound-test : (s : List ℕ) → Sound s → sound s ≡ true
 unfolding sound contents
 sound-test s f =
-    rw (eq-eqb (length s) storeSize (f .size), fine-test (header s) (f .head), f .table,
-    every-all desks (deskSound (rowsIn (areas s)) (entriesIn (areas s))) (f .each))
+    rw (
+      eq-eqb (length s) storeSize (f .size),
+      fine-test (header s) (f .head),
+      f .table,
+      every-all desks (deskSound (rowsIn (areas s)) (entriesIn (areas s))) (f .each),
+    )
 
 -- ---- the areas
 

@@ -3,3 +3,4 @@ pub mod Places
 pub mod Boxes
 pub mod Changes
 pub mod Anew
+pub mod LegalView
