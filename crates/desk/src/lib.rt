@@ -1,0 +1,2 @@
+// One desk, by its row of the store.
+pub mod row;
