@@ -1,1 +1,2 @@
 pub mod Unknowns
+pub mod Lent

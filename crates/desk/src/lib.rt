@@ -2,6 +2,7 @@
 ghost use mathlib.Core.Path.{_≡_};
 pub mod config;
 pub mod control;
+pub mod row;
 
 // A reply's status, and how many octets of data stand at their place in the output.
 pub struct Reply {

@@ -1,5 +1,6 @@
 // Octets of a buffer, read and written at a place. Each contract says what was read by `part`, and the whole buffer at exit by `put`.
 ghost use mathlib.Core.Path.{_≡_};
+ghost use mathlib.Core.Logic.{_⊎_};
 ghost use Prim.Native.Nat.{_+_, _≤_};
 ghost use lib.ListN.{length, replicate};
 ghost use Rattle.octets.specs.Parts.{part, put, alike};
@@ -50,6 +51,18 @@ pub fn copy_to(s: &mut [u8], at: usize, src: &[u8])
     let mut i: usize = 0;
     while i < src.len() {
         s[at + i] = src[i];
+        i += 1;
+    }
+}
+
+// Copies n octets to another place of the buffer: downwards, or clear of where they lie.
+pub fn move_within(s: &mut [u8], from: usize, to: usize, n: usize)
+    requires { ⌜ (from + n ≤ length (now s)) × (to + n ≤ length (now s)) × ((to ≤ from) ⊎ (from + n ≤ to)) ⌝ }
+    ensures { λ _. ⌜ now (s .exit) ≡ put to (part from n (now (s .entry))) (now (s .entry)) ⌝ }
+{
+    let mut i: usize = 0;
+    while i < n {
+        s[to + i] = s[from + i];
         i += 1;
     }
 }

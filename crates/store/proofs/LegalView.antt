@@ -28,6 +28,7 @@ use Rattle.store.specs.Layout.{rowWidth, sizeOf, header, startOf, usedOf
 use Rattle.store.specs.Rows.{fieldAt, fieldSize, field, fields}
 use Rattle.store.specs.View.{deskOf, deskIn, view}
 use Rattle.store.specs.Sound.{countsRight, blocksLegal, markRight, dueRight, locksRight, rowSound, tableSound}
+use Rattle.store.proofs.Fields.{field-length}
 use Rattle.store.proofs.Changes.{Sound, area-length, area-0}
 use Rattle.store.proofs.Anew.{rowOf, inUse, row-length, row-sound, desk-is}
 
@@ -89,28 +90,24 @@ row-test held row f =
 -- ---- a row and a desk
 
 module _ (row : List ℕ) (l : length row ≡ rowWidth) (o : Octets row) (rs : List (List ℕ)) where
-  field-length : (k : ℕ) → fieldAt k + fieldSize k ≤ rowWidth → length (field row k) ≡ fieldSize k
-  unfolding field
-  field-length k h = part-length (fieldAt k) (fieldSize k) row (omega arith)
-
   field-octets : (k : ℕ) → Octets (field row k)
   unfolding field
   field-octets k = octets-part (fieldAt k) (fieldSize k) row o
 
-  memory-legal : (k : ℕ) → fieldAt k + fieldSize k ≤ rowWidth → fieldSize k ≡ 224 → lineLegal (blockAt 7 (field row k)) ≡ true → MemoryLegal (field row k)
-  memory-legal k h e line = record { size = field-length k h ∙ e; octets = octets-each (field row k) (field-octets k); line = line }
+  memory-legal : (k : ℕ) → k < 10 → fieldSize k ≡ 224 → lineLegal (blockAt 7 (field row k)) ≡ true → MemoryLegal (field row k)
+  memory-legal k h e line = record { size = field-length row l k h ∙ e; octets = octets-each (field row k) (field-octets k); line = line }
 
   pub desk-legal : rowSound (length rs) row ≡ true → length rs ≤ share → All RecordLegal rs → DeskLegal (deskIn row rs)
   unfolding deskOf fields upto
   desk-legal e few each =
       let f : RowSound (length rs) row = row-facts (length rs) row e in
       record {
-        ram = memory-legal 0 (lit≤ tt) refl (f .ram);
-        eeprom = memory-legal 1 (lit≤ tt) refl (f .eeprom);
-        valid = rw (field-length 2 (lit≤ tt)) at (number-lt (field row 2) (field-octets 2));
+        ram = memory-legal 0 (lit< tt) refl (f .ram);
+        eeprom = memory-legal 1 (lit< tt) refl (f .eeprom);
+        valid = rw (field-length row l 2 (lit< tt)) at (number-lt (field row 2) (field-octets 2));
         timer = f .timer;
         locks = locks-facts (number (field row 2)) (locksIn (number (field row 8)) (field row 9)) (f .locks);
-        fit = locks-in-fit (number (field row 8)) (field row 9) (field-octets 9) (omega (arith, f .count, field-length 9 (lit≤ tt)));
+        fit = locks-in-fit (number (field row 8)) (field row 9) (field-octets 9) (omega (arith, f .count, field-length row l 9 (lit< tt)));
         table =
             record {
               few = few;

@@ -4,3 +4,4 @@ pub mod Boxes
 pub mod Changes
 pub mod Anew
 pub mod LegalView
+pub mod Fields

@@ -1,0 +1,28 @@
+-- `desk::row::add_lock` meets its contract. Assumes nothing.
+use native.Mathlib.Omega.{arith}
+use borrow.Author.Needs.{needs}
+use Rattle.octets.specs.Parts.{part}
+use Rattle.desk.proofs.Lent.{locked-few, locks-back}
+use Rattle.desk.specs.Row.{lockedRow}
+use Rattle.desk.proofs.row.add_lock.Statement.{statement}
+use Rattle.desk.proofs.row.add_lock.Tie as tie
+
+cast-row : tie.Need-cast-row
+unfolding part
+cast-row c =
+    let k = c .before .before in
+    let g = k .before .before in
+    let z = g .before .before .before .before in
+    record { fits = omega (arith, locked-few (z .args .row .now) (z .pre .1) (z .args .uid) (g .get16 .result)) }
+
+returns : tie.Need-returns
+unfolding part lockedRow
+returns c =
+    let k = c .before .before in
+    let g = k .before .before in
+    let z = g .before .before .before .before in
+    let row = z .args .row .now in
+    rw (← g .get16 .ensures) (locks-back row _ _ _ (z .pre .0) (locked-few row (z .pre .1) _ _) (k .add .ensures .1) (k .add .ensures .0))
+
+pub add-lock-spec : {M : Type 1} → statement M
+add-lock-spec = tie.close (tie.spec (λ c. search needs) (λ c. search needs) (λ c κs. search needs) (λ c. search needs) (λ c. search needs) (λ c. search needs) (λ c κs. search needs) cast-row (λ c. search needs) (λ c. search needs) returns)

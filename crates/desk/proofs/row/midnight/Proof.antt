@@ -1,0 +1,12 @@
+-- `desk::row::midnight` meets its contract. Assumes nothing.
+use borrow.Author.Needs.{needs}
+use Rattle.desk.specs.Row.{midnightRow}
+use Rattle.desk.proofs.row.midnight.Statement.{statement}
+use Rattle.desk.proofs.row.midnight.Tie as tie
+
+returns : tie.Need-returns
+unfolding midnightRow
+returns c = search needs
+
+pub midnight-spec : {M : Type 1} → statement M
+midnight-spec = tie.close (tie.spec (λ c. search needs) (λ c κs. search needs) (λ c. search needs) returns)

@@ -1,0 +1,13 @@
+-- `desk::row::set_due` meets its contract. Assumes nothing.
+use borrow.Author.Needs.{needs}
+use Rattle.octets.specs.Parts.{put}
+use Rattle.desk.specs.Row.{dueRow}
+use Rattle.desk.proofs.row.set_due.Statement.{statement}
+use Rattle.desk.proofs.row.set_due.Tie as tie
+
+returns : tie.Need-returns
+unfolding dueRow put
+returns c = search needs
+
+pub set-due-spec : {M : Type 1} → statement M
+set-due-spec = tie.close (tie.spec (λ c. search needs) (λ c. search needs) returns)

@@ -1,0 +1,13 @@
+-- `desk::row::set_mark` meets its contract. Assumes nothing.
+use borrow.Author.Needs.{needs}
+use Rattle.octets.specs.Parts.{put}
+use Rattle.desk.specs.Row.{markedRow}
+use Rattle.desk.proofs.row.set_mark.Statement.{statement}
+use Rattle.desk.proofs.row.set_mark.Tie as tie
+
+returns : tie.Need-returns
+unfolding markedRow put
+returns c = search needs
+
+pub set-mark-spec : {M : Type 1} → statement M
+set-mark-spec = tie.close (tie.spec (λ c. search needs) (λ c. search needs) returns)

@@ -1,0 +1,12 @@
+-- `desk::row::set_timer` meets its contract. Assumes nothing.
+use borrow.Author.Needs.{needs}
+use Rattle.desk.specs.Row.{timerRow}
+use Rattle.desk.proofs.row.set_timer.Statement.{statement}
+use Rattle.desk.proofs.row.set_timer.Tie as tie
+
+returns : tie.Need-returns
+unfolding timerRow
+returns c = search needs
+
+pub set-timer-spec : {M : Type 1} → statement M
+set-timer-spec = tie.close (tie.spec (λ c κs. search needs) (λ c. search needs) returns)
