@@ -1,2 +1,3 @@
 pub mod Unknowns
+pub mod Doing
 pub mod Lent

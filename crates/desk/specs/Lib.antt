@@ -1,2 +1,3 @@
-pub mod Obeyed
 pub mod Row
+pub mod Obeyed
+pub mod Removal

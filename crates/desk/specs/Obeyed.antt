@@ -2,17 +2,18 @@
 use Prim.Native.Nat.{ℕ, _+_}
 use mathlib.Core.Path.{_≡_}
 use mathlib.Core.Bool.{true}
-use mathlib.Core.List.{List}
+use mathlib.Core.List.{List, map}
 use lib.ListN.{length, set}
 use Rattle.octets.specs.Tests.{first}
 use Rattle.octets.specs.Parts.{put}
 use Rattle.frame.specs.declared.Kind.{Kind}
 use Rattle.frame.specs.Shape.{shapeOf}
 use Rattle.rules.specs.declared.Command.{Command}
+use Rattle.rules.specs.declared.Command.the-variants.{Baud, Reset, SystemReset, ReadBlock, WriteBlock, SaveBlocks, RestoreBlocks, SetTimer, SendTimer, Login, ReadRecords, SendTable, RemoveRecords, ClearRecords}
 use Rattle.rules.specs.declared.Seen.{Seen}
 use Rattle.rules.specs.Desk.{Desk}
 use Rattle.rules.specs.Command.{Result, ownTests, effect, unless}
-use Rattle.rules.specs.Sighting.{seenAs, afterSeen}
+use Rattle.rules.specs.Sighting.{seenAs, afterSeen, ticked}
 use Rattle.rules.specs.Box.{deskAt}
 use Rattle.store.specs.View.{view}
 use Rattle.store.specs.Sound.{sound}
@@ -36,6 +37,11 @@ pub record Done (d : ℕ) (res : Result) (r : Reply) (s s′ : List ℕ) : Type 
   pub len-is : r .len ≡ length (res .sent)
   pub says : Says d (res .desk) s s′
 
+-- a command whose reply carries no data, in either kind of frame
+pub record Quiet (c : Command) (d : ℕ) (body : List ℕ) (r : Reply) (s s′ : List ℕ) : Type 0 where
+  pub done : (kind : Kind) → Done d (ruled c kind (kept d s) body) r s s′
+  pub none : r .len ≡ 0
+
 -- where a reply's data begin
 abbrev pub dataAt : Kind → ℕ
 dataAt kind = shapeOf kind .lead + 3
@@ -47,3 +53,25 @@ pub record Obeyed (d : ℕ) (kind : Kind) (res : Result) (r : Reply) (s s′ out
 pub record Sighted (d uid mask : ℕ) (seen : Seen) (s s′ : List ℕ) : Type 0 where
   pub seen-is : seen ≡ seenAs uid (kept d s)
   pub says : Says d (afterSeen seen uid mask (kept d s)) s s′
+
+-- every desk is ticked
+pub record Ticked (s s′ : List ℕ) : Type 0 where
+  pub still : sound s′ ≡ true
+  pub view-is : view s′ ≡ map ticked (view s)
+
+-- the data length that the rows list for a command
+abbrev pub dataSize : Command → ℕ
+dataSize Baud = 1
+dataSize Reset = 0
+dataSize SystemReset = 0
+dataSize ReadBlock = 1
+dataSize WriteBlock = 15
+dataSize SaveBlocks = 1
+dataSize RestoreBlocks = 1
+dataSize SetTimer = 4
+dataSize SendTimer = 0
+dataSize Login = 4
+dataSize ReadRecords = 2
+dataSize SendTable = 0
+dataSize RemoveRecords = 0
+dataSize ClearRecords = 0

@@ -7,6 +7,7 @@ use lib.ListN.{length, getD, replicate}
 use Rattle.octets.specs.Parts.{part, put}
 use Rattle.octets.specs.Numbers.{u16At}
 use Rattle.timer.specs.Clock.{stepOf, timerOctets, timerFrom}
+use Rattle.rules.specs.Config.{defaults}
 use Rattle.locks.specs.declared.Lock.{Lock}
 use Rattle.locks.specs.Locks.{added, sweptOf, locksIn, locksOctets}
 
@@ -93,3 +94,17 @@ validRow row = put 448 (part 392 2 row) row
 -- both; logged out, no locks
 unfoldable pub restartedRow : List ℕ → List ℕ
 restartedRow row = unlockedRow (loginRow false (validRow (loadedRow row)))
+
+-- ---- several at once
+
+-- all blocks of a memory to their defaults
+unfoldable pub defaultRow : Bool → List ℕ → List ℕ
+defaultRow eeprom row = put (memoryAt eeprom) defaults row
+
+-- 0x33, but for the records
+unfoldable pub clearedRow : List ℕ → List ℕ
+clearedRow row = unlockedRow (closedRow 0 row)
+
+-- 0x64, but for the records
+unfoldable pub systemRow : List ℕ → List ℕ
+systemRow row = midnightRow (closedRow 0 (restartedRow row))

@@ -4,7 +4,8 @@ ghost use mathlib.Core.Bool.{cond};
 ghost use Prim.Native.Nat.{_≤_, _<_};
 ghost use lib.ListN.{length, getD};
 ghost use Rattle.store.specs.Layout.{rowWidth};
-ghost use Rattle.desk.specs.Row.{restartedRow, midnightRow, unlockedRow, closedRow, markedRow, dueRow, loginRow, timerRow, memoryAt, writtenRow, savedRow, allSavedRow, lockedRow, sweptRow, steppedRow, tickedRow};
+ghost use Rattle.desk.specs.Row.{restartedRow, midnightRow, unlockedRow, closedRow, markedRow, dueRow, loginRow, timerRow, memoryAt, writtenRow, savedRow, allSavedRow, lockedRow, sweptRow, steppedRow, tickedRow, defaultRow, clearedRow, systemRow};
+ghost use Rattle.rules.specs.Config.{blockAt, defaults};
 
 // Where the fields lie, and the octets of a memory and of a block.
 const RAM: usize = 0;
@@ -178,4 +179,40 @@ pub fn tick(row: &mut [u8])
 {
     tick_locks(row);
     tick_timer(row);
+}
+
+// Block k of a memory to its defaults.
+pub fn restore_block(row: &mut [u8], eeprom: bool, k: usize)
+    requires { ⌜ (length (now row) ≡ rowWidth) × (k < 16) ⌝ }
+    ensures { λ _. ⌜ now (row .exit) ≡ writtenRow eeprom k (blockAt k defaults) (now (row .entry)) ⌝ }
+{
+    let b = store::fresh::default_block(k);
+    write_block(row, eeprom, k, &b);
+}
+
+// All blocks of a memory to their defaults.
+pub fn restore_all(row: &mut [u8], eeprom: bool)
+    requires { ⌜ length (now row) ≡ rowWidth ⌝ }
+    ensures { λ _. ⌜ now (row .exit) ≡ defaultRow eeprom (now (row .entry)) ⌝ }
+{
+    store::fresh::put_memory(row, memory_at(eeprom));
+}
+
+// No records are marked, due or counted, and no locks stand.
+pub fn clear(row: &mut [u8])
+    requires { ⌜ length (now row) ≡ rowWidth ⌝ }
+    ensures { λ _. ⌜ now (row .exit) ≡ clearedRow (now (row .entry)) ⌝ }
+{
+    close_table(row, 0);
+    clear_locks(row);
+}
+
+// A restart, the timer zero, no records marked, due or counted.
+pub fn restart_all(row: &mut [u8])
+    requires { ⌜ length (now row) ≡ rowWidth ⌝ }
+    ensures { λ _. ⌜ now (row .exit) ≡ systemRow (now (row .entry)) ⌝ }
+{
+    restart(row);
+    close_table(row, 0);
+    midnight(row);
 }

@@ -12,25 +12,19 @@ use lib.Dec.{lit<}
 use Rattle.octets.specs.Parts.{part, put, rows}
 use Rattle.octets.specs.Numbers.{octets}
 use Rattle.octets.specs.Areas.{upto, change}
-use Rattle.octets.proofs.Puts.{put-length, put-whole, part-length, part-part}
+use Rattle.octets.proofs.Puts.{put-length, put-whole, part-length, part-part, part-put-same}
 use Rattle.octets.proofs.Rows.{rows-length, rows-put, rows-at}
 use Rattle.table.specs.Entries.{desks, entryCount, entries, recordsOf}
 use Rattle.rules.specs.Desk.{freshDesk}
 use Rattle.rules.specs.Box.{deskAt}
-use Rattle.store.specs.Layout.{storeSize, rowWidth, sizeOf, header, startOf, usedOf, area, areas, rowAt}
-use Rattle.store.specs.View.{deskIn, boxFrom, rowsIn, entriesIn, viewOf, view}
+use Rattle.store.specs.Layout.{recounted, storeSize, rowWidth, sizeOf, header, startOf, usedOf, area, areas, rowAt, rowOf}
+use Rattle.store.specs.View.{deskIn, boxFrom, rowsIn, entriesIn, inUse, viewOf, view}
 use Rattle.store.specs.Sound.{rowSound, tableSound, deskSound}
 use Rattle.store.proofs.Places.{used-counted, counted-fine}
 use Rattle.store.proofs.Boxes.{box-at, box-row, box-records}
-use Rattle.store.proofs.Changes.{Sound, area-length, area-0, into, into-area, header-kept, counted, header-counted, header-length, used-now, into-count}
+use Rattle.store.proofs.Changes.{Sound, area-length, area-0, into, into-area, header-kept, header-counted, header-length, used-now, into-count}
 
--- ---- a row, and the entries in use, of a store
-
-abbrev pub rowOf : ℕ → List ℕ → List ℕ
-rowOf d s = part (rowAt d s) rowWidth s
-
-abbrev pub inUse : List ℕ → List (List ℕ)
-inUse s = entriesIn (areas s)
+-- ---- the row of a desk
 
 module _ (s : List ℕ) (f : Sound s) (d : ℕ) (h : d < desks) where
   pub row-is : getD (rowsIn (areas s)) d [] ≡ rowOf d s
@@ -69,9 +63,14 @@ module _ (s : List ℕ) (f : Sound s) (d : ℕ) (h : d < desks) (row : List ℕ)
       ∙ rows-put desks rowWidth d 0 row (area s 1) h (omega arith)
       ∙ ap (set (rows desks rowWidth (area s 1)) d) (put-whole row _ (l ∙ sym (ap length (rows-at desks rowWidth d (area s 1) h) ∙ part-length (rowWidth * d) rowWidth (area s 1) (omega (arith, area-length s f 1 (lit< tt))))))
 
-  entries-kept : inUse (put (rowAt d s) row s) ≡ inUse s
+  pub entries-kept : inUse (put (rowAt d s) row s) ≡ inUse s
   unfolding areas upto
   entries-kept = ap entriesIn (into-area s (f .head) 1 (rowWidth * d) row (lit< tt) (omega arith) (lit< tt))
+
+  pub row-now : rowOf d (put (rowAt d s) row s) ≡ row
+  row-now =
+      let kept : header (put (rowAt d s) row s) ≡ header s = header-kept s (f .head) 1 (rowWidth * d) row (lit< tt) (omega arith) (lit< tt) in
+      rw kept (ap (λ (n : ℕ). part (rowAt d s) n (put (rowAt d s) row s)) (sym l) ∙ part-put-same (rowAt d s) row s (omega (arith, row-inside s f d h)))
 
   pub row-anew : rowSound (length (recordsOf d (inUse s))) row ≡ true → Left d row (recordsOf d (inUse s)) s (put (rowAt d s) row s)
   unfolding view viewOf
@@ -107,26 +106,26 @@ module _ (s : List ℕ) (f : Sound s) (d : ℕ) (h : d < desks) (t : List ℕ) (
   size-kept : length refilled ≡ storeSize
   size-kept = put-length (startOf (header s) 2) t s ∙ f .size
 
-  areas-now : areas (counted n refilled) ≡ change 0 (put 4 (octets 2 n)) (change 2 (put 0 t) (areas s))
+  areas-now : areas (recounted n refilled) ≡ change 0 (put 4 (octets 2 n)) (change 2 (put 0 t) (areas s))
   areas-now =
       into-count refilled size-kept n few (rw head-kept (f .head))
       ∙ ap (change 0 (put 4 (octets 2 n)))
       (ap (λ (p : ℕ). areas (put p t s)) (sym (add-zero (startOf (header s) 2))) ∙ into-area s (f .head) 2 0 t (lit< tt) (omega arith) (lit< tt))
 
-  entries-now : inUse (counted n refilled) ≡ entries n t
+  entries-now : inUse (recounted n refilled) ≡ entries n t
   unfolding areas upto
   entries-now =
       let whole : put 0 t (area s 2) ≡ t = put-whole t (area s 2) (l ∙ sym (area-length s f 2 (lit< tt))) in
       let count : usedOf (put 4 (octets 2 n) (area s 0)) ≡ n = used-counted n (area s 0) few (area-length s f 0 (lit< tt)) in
       ap entriesIn areas-now ∙ rw (whole, count)
 
-  rows-kept : rowsIn (areas (counted n refilled)) ≡ rowsIn (areas s)
+  rows-kept : rowsIn (areas (recounted n refilled)) ≡ rowsIn (areas s)
   unfolding areas upto
   rows-kept = ap rowsIn areas-now
 
   pub entries-anew : tableSound (entries n t) ≡ true → ((c : ℕ) → c < desks → (c ≡ d → ⊥) → recordsOf c (entries n t) ≡ recordsOf c (inUse s))
       → rowSound (length (recordsOf d (entries n t))) (rowOf d s) ≡ true
-      → Left d (rowOf d s) (recordsOf d (entries n t)) s (counted n refilled)
+      → Left d (rowOf d s) (recordsOf d (entries n t)) s (recounted n refilled)
   unfolding view viewOf
   entries-anew ok others e =
       record {

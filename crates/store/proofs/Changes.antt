@@ -23,7 +23,7 @@ use Rattle.octets.proofs.Rows.{rows-length, rows-put, rows-at}
 use Rattle.table.specs.Entries.{width, desks, entryCount, entries, recordsOf}
 use Rattle.rules.specs.Desk.{Desk, freshDesk}
 use Rattle.rules.specs.Box.{Box, deskAt}
-use Rattle.store.specs.Layout.{storeSize, rowWidth, sizeOf, header, startOf, usedOf, area, areas, rowAt}
+use Rattle.store.specs.Layout.{recounted, storeSize, rowWidth, sizeOf, header, startOf, usedOf, area, areas, rowAt}
 use Rattle.store.specs.View.{deskIn, boxFrom, rowsIn, entriesIn, viewOf, view}
 use Rattle.store.specs.Sound.{fine, rowSound, tableSound, deskSound, contents, sound}
 use Rattle.store.proofs.Places.{Fine, fine-facts, fine-test, start-counted, used-counted, counted-fine}
@@ -97,12 +97,8 @@ module _ (s : List ℕ) (f : Fine (header s)) (k o : ℕ) (xs : List ℕ) (low :
   pub into-area : 0 < k → areas (into k o xs s) ≡ change k (put o xs) (areas s)
   into-area pos = areas-into (λ j l. rw (header-kept pos))
 
--- s with the count c
-abbrev pub counted : ℕ → List ℕ → List ℕ
-counted c s = put 4 (octets 2 c) s
-
 module _ (s : List ℕ) (size : length s ≡ storeSize) (c : ℕ) (few : c ≤ entryCount) where
-  pub header-counted : header (counted c s) ≡ put 4 (octets 2 c) (header s)
+  pub header-counted : header (recounted c s) ≡ put 4 (octets 2 c) (header s)
   unfolding header
   header-counted = part-put-in 0 6 4 (octets 2 c) s (omega (arith, octets-length 2 c))
 
@@ -110,9 +106,9 @@ module _ (s : List ℕ) (size : length s ≡ storeSize) (c : ℕ) (few : c ≤ e
   unfolding header
   header-length = part-length 0 6 s (omega arith)
 
-  pub used-now : usedOf (header (counted c s)) ≡ c
+  pub used-now : usedOf (header (recounted c s)) ≡ c
   used-now = rw header-counted (used-counted c (header s) few header-length)
 
-  pub into-count : Fine (header s) → areas (counted c s) ≡ change 0 (put 4 (octets 2 c)) (areas s)
+  pub into-count : Fine (header s) → areas (recounted c s) ≡ change 0 (put 4 (octets 2 c)) (areas s)
   unfolding startOf
   into-count f = areas-into s f 0 4 (octets 2 c) (lit< tt) (omega (arith, octets-length 2 c)) (λ j l. rw header-counted (start-counted c (header s) j l))

@@ -24,13 +24,13 @@ use Rattle.table.proofs.Shares.{sharesKept-at}
 use Rattle.rules.specs.Config.{blockAt, lineLegal}
 use Rattle.rules.proofs.Facts.{MemoryLegal, RecordLegal, TableLegal, DeskLegal, BoxLegal}
 use Rattle.rules.specs.Box.{deskAt}
-use Rattle.store.specs.Layout.{rowWidth, sizeOf, header, startOf, usedOf, area, areas, rowAt}
+use Rattle.store.specs.Layout.{rowWidth, sizeOf, header, startOf, usedOf, area, areas, rowAt, rowOf}
 use Rattle.store.specs.Rows.{fieldAt, fieldSize, field, fields}
-use Rattle.store.specs.View.{deskOf, deskIn, view}
+use Rattle.store.specs.View.{deskOf, deskIn, inUse, view}
 use Rattle.store.specs.Sound.{countsRight, blocksLegal, markRight, dueRight, locksRight, rowSound, tableSound}
 use Rattle.store.proofs.Fields.{field-length}
 use Rattle.store.proofs.Changes.{Sound, area-length, area-0}
-use Rattle.store.proofs.Anew.{rowOf, inUse, row-length, row-sound, desk-is}
+use Rattle.store.proofs.Anew.{row-length, row-sound, desk-is}
 
 -- ---- what the test of a row tells, with the number of records held
 

@@ -5,3 +5,6 @@ pub mod Changes
 pub mod Anew
 pub mod LegalView
 pub mod Fields
+pub mod Blocks
+pub mod FreshRows
+pub mod FreshBox

@@ -3,8 +3,8 @@
 use Prim.Native.Nat.{ℕ, zero, suc, _+_, _*_}
 use mathlib.Core.List.{List, [], _∷_}
 use lib.ListN.{getD}
-use Rattle.octets.specs.Parts.{part}
-use Rattle.octets.specs.Numbers.{u16At}
+use Rattle.octets.specs.Parts.{part, put}
+use Rattle.octets.specs.Numbers.{octets, u16At}
 use Rattle.octets.specs.Areas.{upto}
 use Rattle.table.specs.Entries.{width, desks, entryCount}
 
@@ -40,3 +40,10 @@ areas s = upto 3 (area s)
 -- where the row of desk d begins
 abbrev pub rowAt : ℕ → List ℕ → ℕ
 rowAt d s = startOf (header s) 1 + rowWidth * d
+
+abbrev pub rowOf : ℕ → List ℕ → List ℕ
+rowOf d s = part (rowAt d s) rowWidth s
+
+-- s with n entries in use
+abbrev pub recounted : ℕ → List ℕ → List ℕ
+recounted n s = put 4 (octets 2 n) s

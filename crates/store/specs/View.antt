@@ -42,6 +42,10 @@ rowsIn all = rows desks rowWidth (getD all 1 [])
 abbrev pub entriesIn : List (List ℕ) → List (List ℕ)
 entriesIn all = entries (usedOf (getD all 0 [])) (getD all 2 [])
 
+-- the entries in use of a store
+abbrev pub inUse : List ℕ → List (List ℕ)
+inUse s = entriesIn (areas s)
+
 unfoldable pub viewOf : List (List ℕ) → Box
 viewOf all = boxFrom 0 (rowsIn all) (entriesIn all)
 

@@ -25,7 +25,7 @@ part-result-end c = search needs
 
 returns : tie.Need-returns
 unfolding blockAt part
-returns c = 
+returns c =
     let a = c .before .before .args in
     let n : 14 * a .k + 14 - 14 * a .k ≡ 14 = omega arith in
     rw (n, c .before .if1 .taken)
@@ -41,7 +41,7 @@ part-result-end-2 c = search needs
 
 returns-2 : tie.Need-returns-2
 unfolding blockAt part
-returns-2 c = 
+returns-2 c =
     let a = c .before .before .args in
     let n : 14 * a .k + 14 - 14 * a .k ≡ 14 = omega arith in
     rw (n, c .before .if1 .left)

@@ -1,0 +1,75 @@
+-- From a desk's row, or its entries, anew to what the store then says. Assumes nothing.
+use Prim.Native.Nat.{ℕ, _+_, _*_, _≤_, _<_}
+use mathlib.Core.Path.{_≡_, refl, sym, ap, _∙_}
+use mathlib.Core.Bool.{true}
+use mathlib.Core.List.{List, []}
+use native.Mathlib.Omega.{arith}
+use lib.ListN.{length, set, getD}
+use lib.Seq.{set-getD, set-set}
+use lib.Dec.{lit<}
+use Rattle.octets.specs.Parts.{part, put}
+use Rattle.octets.specs.Numbers.{number, Octets}
+use Rattle.table.specs.Entries.{desks, entryCount, entries, recordsOf}
+use Rattle.rules.specs.Desk.{Desk, freshDesk}
+use Rattle.rules.specs.Box.{deskAt}
+use Rattle.rules.proofs.Facts.{DeskLegal}
+use Rattle.store.specs.Layout.{rowWidth, sizeOf, header, startOf, rowAt, rowOf, recounted}
+use Rattle.store.specs.Rows.{field}
+use Rattle.store.specs.View.{deskIn, inUse, view}
+use Rattle.store.specs.Sound.{sound, rowSound, tableSound}
+use Rattle.store.proofs.Changes.{Sound, sound-facts, sound-test}
+use Rattle.store.proofs.Anew.{row-length, row-sound, desk-is, Left, row-anew, refilled, entries-anew}
+use Rattle.store.proofs.LegalView.{RowSound, row-facts, legal-row, legal-at}
+use Rattle.desk.specs.Obeyed.{kept, Says}
+
+-- login and mark are 0 or 1
+pub record Flags (row : List ℕ) : Type 0 where
+  pub login : number (field row 3) ≤ 1
+  pub mark : number (field row 5) ≤ 1
+
+module _ (s : List ℕ) (e : sound s ≡ true) (d : ℕ) (h : d < desks) where
+  facts : Sound s
+  facts = sound-facts s e
+
+  -- the desk by its row and its records
+  pub kept-is : kept d s ≡ deskIn (rowOf d s) (recordsOf d (inUse s))
+  kept-is = desk-is s facts d h
+
+  pub row-size : length (rowOf d s) ≡ rowWidth
+  row-size = row-length s facts d h
+
+  pub row-right : RowSound (length (recordsOf d (inUse s))) (rowOf d s)
+  row-right = row-facts _ (rowOf d s) (row-sound s facts d h)
+
+  pub row-flags : Flags (rowOf d s)
+  row-flags = record { login = row-right .login; mark = row-right .mark }
+
+  pub kept-legal : Octets s → DeskLegal (kept d s)
+  kept-legal o = legal-at s facts o d h
+
+  -- nothing is changed
+  pub unchanged : Says d (kept d s) s s
+  unfolding deskAt
+  unchanged = record { still = e; view-is = sym (set-getD (view s) d freshDesk) }
+
+  -- a row anew that says a legal desk
+  pub row-says : (row : List ℕ) (desk′ : Desk) → length row ≡ rowWidth → deskIn row (recordsOf d (inUse s)) ≡ desk′ → DeskLegal desk′ → Flags row
+      → Says d desk′ s (put (rowAt d s) row s)
+  row-says row desk′ l q p f =
+      let ok : rowSound (length (recordsOf d (inUse s))) row ≡ true = legal-row row (recordsOf d (inUse s)) (rw q p) (f .login) (f .mark) in
+      let left : Left d row (recordsOf d (inUse s)) s (put (rowAt d s) row s) = row-anew s facts d h row l ok in
+      record { still = sound-test _ (left .still); view-is = left .now-view ∙ ap (set (view s) d) q }
+
+  -- the entries anew: those of other desks as they were
+  pub entries-say : (t : List ℕ) (n : ℕ) (desk′ : Desk) → (l : length t ≡ sizeOf 2) → (few : n ≤ entryCount) → tableSound (entries n t) ≡ true
+      → ((c : ℕ) → c < desks → (c ≡ d → ⊥) → recordsOf c (entries n t) ≡ recordsOf c (inUse s))
+      → deskIn (rowOf d s) (recordsOf d (entries n t)) ≡ desk′ → DeskLegal desk′
+      → Says d desk′ s (recounted n (put (startOf (header s) 2) t s))
+  entries-say t n desk′ l few ok others q p =
+      let fine : rowSound (length (recordsOf d (entries n t))) (rowOf d s) ≡ true = legal-row (rowOf d s) (recordsOf d (entries n t)) (rw q p) (row-flags .login) (row-flags .mark) in
+      let left : Left d (rowOf d s) (recordsOf d (entries n t)) s (recounted n (put (startOf (header s) 2) t s)) = entries-anew s facts d h t l n few ok others fine in
+      record { still = sound-test _ (left .still); view-is = left .now-view ∙ ap (set (view s) d) q }
+
+-- one after the other at the same desk
+pub says-then : (d : ℕ) (one two : Desk) (s s′ s″ : List ℕ) → Says d one s s′ → Says d two s′ s″ → Says d two s s″
+says-then d one two s s′ s″ a b = record { still = b .still; view-is = b .view-is ∙ ap (λ (v : List Desk). set v d two) (a .view-is) ∙ set-set (view s) d one two }
