@@ -1,1 +1,4 @@
 pub mod Headers
+pub mod Blocks
+pub mod FreshRows
+pub mod FreshBox

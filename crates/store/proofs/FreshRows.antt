@@ -1,0 +1,61 @@
+-- The fresh row, header and rows, as they are written one part behind the other. Assumes nothing.
+use Prim.Native.Nat.{ℕ, zero, suc, _+_, _*_}
+use mathlib.Core.Path.{_≡_, sym, ap, _∙_}
+use mathlib.Core.List.{List, [], _∷_, _++_}
+use lib.ListN.{length, replicate, length-append, length-replicate, replicate-append-replicate}
+use native.Mathlib.Omega.{arith}
+use Rattle.octets.specs.Parts.{put, concat}
+use Rattle.octets.specs.Numbers.{octets}
+use Rattle.octets.proofs.Puts.{put-length, put-append}
+use Rattle.octets.proofs.Joins.{put-next}
+use Rattle.octets.proofs.Numbers.{octets-length}
+use Rattle.octets.proofs.Rows.{Wide, concat-append, concat-one, length-concat}
+use Rattle.table.specs.Entries.{desks}
+use Rattle.rules.specs.Config.{defaults, validOf}
+use Rattle.rules.proofs.Memories.{defaults-legal}
+use Rattle.store.specs.Layout.{storeSize, rowWidth}
+use Rattle.store.specs.Fresh.{freshRow, freshHeader, freshStore}
+
+-- three parts, one behind the other
+put-three : (xs ys zs s : List ℕ) (i j : ℕ) → length xs ≡ i → length xs + length ys ≡ j → put j zs (put i ys (put 0 xs s)) ≡ put 0 (xs ++ ys ++ zs) s
+put-three xs ys zs s i j e h = ap (put j zs) (put-next xs ys s i e) ∙ put-next (xs ++ ys) zs s j (length-append xs ys ∙ h)
+
+-- the defaults twice, and VALID-TIME v
+pub row-made : (v : ℕ) (s : List ℕ) → v ≡ validOf defaults → s ≡ replicate rowWidth 0 → put 448 (octets 2 v) (put 224 defaults (put 0 defaults s)) ≡ freshRow
+unfolding freshRow
+row-made v s e h =
+    let d : length defaults ≡ 224 = defaults-legal .size in
+    rw (e, h) (put-three defaults defaults (octets 2 (validOf defaults)) (replicate rowWidth 0) 224 448 d (omega arith))
+
+pub row-length : length freshRow ≡ rowWidth
+unfolding freshRow
+row-length = put-length 0 _ (replicate rowWidth 0) ∙ length-replicate {A = ℕ} rowWidth 0
+
+-- the rows at a, the entries at b, u of them in use
+pub header-made : (a b u : ℕ) (s : List ℕ) → a ≡ 6 → b ≡ 6 + rowWidth * desks → u ≡ 0 → put 4 (octets 2 u) (put 2 (octets 2 b) (put 0 (octets 2 a) s)) ≡ put 0 freshHeader s
+unfolding freshHeader
+header-made a b u s p q r =
+    put-three (octets 2 a) (octets 2 b) (octets 2 u) s 2 4 (octets-length 2 a) (omega (arith, octets-length 2 a, octets-length 2 b)) ∙ rw (p, q, r)
+
+-- ---- rows alike
+
+pub wide-alike : (w d : ℕ) (r : List ℕ) → length r ≡ w → Wide w (replicate d r)
+unfolding Wide
+wide-alike w zero r e = tt
+wide-alike w (suc d) r e = (e, wide-alike w d r e)
+
+-- one row more, behind d of them
+pub rows-next : (w d start at : ℕ) (r r′ s s′ : List ℕ) → length r ≡ w → at ≡ start + w * d → r′ ≡ r → s′ ≡ put start (concat (replicate d r)) s → put at r′ s′ ≡ put start (concat (replicate (d + 1) r)) s
+rows-next w d start at r r′ s s′ e h p q =
+    let rs = replicate d r in
+    let l : length (concat rs) ≡ w * d = length-concat w rs (wide-alike w d r e) ∙ ap (λ (k : ℕ). w * k) (length-replicate d r) in
+    let more : concat (replicate (d + 1) r) ≡ concat rs ++ r =
+    ap concat (sym (replicate-append-replicate d 1 r)) ∙ concat-append rs (r ∷ []) ∙ ap (λ (x : List ℕ). concat rs ++ x) (concat-one r)
+    in
+    let at-is : at ≡ start + length (concat rs) = omega arith in
+    rw (p, q, at-is, more) (sym (put-append start (concat rs) r s))
+
+-- the rows and the header, in as many zeros as a store has octets
+pub store-made : (n : ℕ) → n ≡ storeSize → put 6 (concat (replicate desks freshRow)) (put 0 freshHeader (replicate n 0)) ≡ freshStore
+unfolding freshStore
+store-made n e = ap (λ (k : ℕ). put 6 (concat (replicate desks freshRow)) (put 0 freshHeader (replicate k 0))) e

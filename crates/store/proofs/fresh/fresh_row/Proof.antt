@@ -1,0 +1,30 @@
+-- `store::fresh::fresh_row` meets its contract. Assumes nothing.
+use Prim.Native.Nat.{ℕ}
+use mathlib.Core.Path.{sym, ap, _∙_}
+use lib.ListN.{replicate}
+use Rattle.store.proofs.Blocks.{valid-default}
+use Rattle.store.proofs.FreshRows.{row-made}
+use borrow.Author.Needs.{needs}
+use Rattle.store.proofs.fresh.fresh_row.Statement.{statement}
+use Rattle.store.proofs.fresh.fresh_row.Tie as tie
+
+returns : tie.Need-returns
+returns c =
+    let number = c .before .before in
+    let second = number .before .before .before .before in
+    let one = second .before .before .before .before in
+    let zeros = one .before .before .before .before in
+    number .put16 .ensures
+    ∙ rw (second .put-memory2 .ensures, one .put-memory .ensures)
+    (row-made _ _ (sym valid-default) (zeros .fill .ensures ∙ ap (λ (n : ℕ). replicate n 0) (zeros .before .before .before .pre)))
+
+pub fresh-row-spec : {M : Type 1} → statement M
+fresh-row-spec =
+    tie.close
+    (tie.spec
+    (λ c κs. search needs)
+    (λ c κs. search needs)
+    (λ c κs. search needs)
+    (λ c κs. search needs)
+    (λ c. search needs)
+    returns)

@@ -1,0 +1,16 @@
+-- `store::fresh::make` meets its contract. Assumes nothing.
+use mathlib.Core.Path.{_∙_}
+use Rattle.store.proofs.FreshRows.{store-made}
+use borrow.Author.Needs.{needs}
+use Rattle.store.proofs.fresh.make.Statement.{statement}
+use Rattle.store.proofs.fresh.make.Tie as tie
+
+returns : tie.Need-returns
+returns c =
+    let rows = c .before .before in
+    let head = rows .before .before .before .before in
+    let zeros = head .before .before .before .before in
+    rows .put-rows .ensures ∙ rw (head .put-header .ensures, zeros .fill .ensures) (store-made _ (zeros .before .before .before .pre))
+
+pub make-spec : {M : Type 1} → statement M
+make-spec = tie.close (tie.spec (λ c κs. search needs) (λ c κs. search needs) (λ c κs. search needs) (λ c. search needs) returns)
