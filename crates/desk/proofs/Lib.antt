@@ -1,3 +1,4 @@
 pub mod Unknowns
 pub mod Doing
 pub mod Lent
+pub mod Meaning

@@ -1,7 +1,7 @@
 -- What is done to the row of one desk, octet for octet: RAM 0, EEPROM 224, VALID-TIME in force 448, login 450, timer 451, mark 455,
 -- removal due 456, TAB-START 457, how many locks 458, locks 459. Assumes nothing.
 use Prim.Native.Nat.{ℕ, _+_, _*_}
-use mathlib.Core.Bool.{Bool, false, cond}
+use mathlib.Core.Bool.{Bool, true, false, cond}
 use mathlib.Core.List.{List, [], _∷_}
 use lib.ListN.{length, getD, replicate}
 use Rattle.octets.specs.Parts.{part, put}
@@ -28,7 +28,7 @@ dueRow n row = one 456 n row
 
 -- the mark falls, nothing is due, TAB-START is start
 unfoldable pub closedRow : ℕ → List ℕ → List ℕ
-closedRow start row = put 455 (0 ∷ 0 ∷ start ∷ []) row
+closedRow start row = one 457 start (dueRow 0 (one 455 0 row))
 
 -- ---- the timer
 
@@ -49,7 +49,7 @@ writtenRow eeprom k bytes row = put (memoryAt eeprom + 14 * k) bytes row
 
 -- block k of EEPROM, or all blocks, from RAM
 unfoldable pub savedRow : ℕ → List ℕ → List ℕ
-savedRow k row = put (224 + 14 * k) (part (14 * k) 14 row) row
+savedRow k row = writtenRow true k (part (14 * k) 14 row) row
 
 unfoldable pub allSavedRow : List ℕ → List ℕ
 allSavedRow row = put 224 (part 0 224 row) row

@@ -74,6 +74,17 @@ number-none at s = ap number (part-none at s)
 pub number-more : (at n : ℕ) (s : List ℕ) → at + n < length s → number (part at (n + 1) s) ≡ number (part at n s) * 256 + getD s (at + n) 0
 number-more at n s h = ap number (part-more at n s h) ∙ number-snoc (part at n s) (getD s (at + n) 0)
 
+-- ---- one octet
+
+pub number-one : (x : ℕ) → number (x ∷ []) ≡ x
+unfolding number
+number-one x = omega arith
+
+pub number-at : (at : ℕ) (s : List ℕ) → at < length s → number (part at 1 s) ≡ getD s at 0
+number-at at s h =
+    let z : getD s (at + 0) 0 ≡ getD s at 0 = rw add-zero in
+    omega (arith, number-more at 0 s (omega arith), number-none at s)
+
 -- ---- two octets
 
 pub u16At-is : (at : ℕ) (s : List ℕ) → at + 2 ≤ length s → u16At at s ≡ getD s at 0 * 256 + getD s (at + 1) 0
@@ -81,6 +92,9 @@ unfolding u16At
 u16At-is at s h =
     let z : getD s (at + 0) 0 ≡ getD s at 0 = rw add-zero in
     omega (arith, number-more at 1 s (omega arith), number-more at 0 s (omega arith), number-none at s)
+
+pub u16At-lt : (at : ℕ) (s : List ℕ) → Octets s → at + 2 ≤ length s → u16At at s < 65536
+u16At-lt at s h l = omega (arith, u16At-is at s l, h at, h (at + 1))
 
 -- a put elsewhere leaves them
 pub u16At-away : (from at : ℕ) (xs s : List ℕ) → Apart at (length xs) from 2 → u16At from (put at xs s) ≡ u16At from s

@@ -1,12 +1,12 @@
 -- `desk::row::close_table` meets its contract. Assumes nothing.
 use borrow.Author.Needs.{needs}
 use Rattle.octets.specs.Parts.{put}
-use Rattle.desk.specs.Row.{closedRow}
+use Rattle.desk.specs.Row.{dueRow, closedRow}
 use Rattle.desk.proofs.row.close_table.Statement.{statement}
 use Rattle.desk.proofs.row.close_table.Tie as tie
 
 returns : tie.Need-returns
-unfolding closedRow put
+unfolding closedRow dueRow put
 returns c = search needs
 
 pub close-table-spec : {M : Type 1} → statement M

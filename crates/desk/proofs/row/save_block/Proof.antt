@@ -2,7 +2,7 @@
 use mathlib.Core.Logic.{inr}
 use native.Mathlib.Omega.{arith}
 use borrow.Author.Needs.{needs}
-use Rattle.desk.specs.Row.{savedRow}
+use Rattle.desk.specs.Row.{writtenRow, savedRow}
 use Rattle.desk.proofs.row.save_block.Statement.{statement}
 use Rattle.desk.proofs.row.save_block.Tie as tie
 
@@ -10,7 +10,7 @@ move-within-requires : tie.Need-move-within-requires
 move-within-requires c κs = (omega arith, omega arith, inr (omega arith))
 
 returns : tie.Need-returns
-unfolding savedRow
+unfolding writtenRow savedRow
 returns c = search needs
 
 pub save-block-spec : {M : Type 1} → statement M
