@@ -74,7 +74,14 @@ number-none at s = ap number (part-none at s)
 pub number-more : (at n : ℕ) (s : List ℕ) → at + n < length s → number (part at (n + 1) s) ≡ number (part at n s) * 256 + getD s (at + n) 0
 number-more at n s h = ap number (part-more at n s h) ∙ number-snoc (part at n s) (getD s (at + n) 0)
 
--- ---- two octets
+-- ---- one octet, and two
+
+pub number-one : (at : ℕ) (s : List ℕ) → number (part at 1 s) ≡ getD s at 0
+unfolding number part
+number-one zero [] = refl
+number-one zero (x ∷ s) = omega arith
+number-one (suc at) [] = refl
+number-one (suc at) (x ∷ s) = number-one at s
 
 pub u16At-is : (at : ℕ) (s : List ℕ) → at + 2 ≤ length s → u16At at s ≡ getD s at 0 * 256 + getD s (at + 1) 0
 unfolding u16At

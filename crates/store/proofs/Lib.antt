@@ -1,1 +1,3 @@
 pub mod Headers
+pub mod Places
+pub mod Fields

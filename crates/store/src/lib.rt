@@ -4,6 +4,8 @@ ghost use Prim.Native.Nat.{_≤_, _<_};
 ghost use lib.ListN.{length};
 ghost use Rattle.store.specs.Layout.{sizeOf, header, startOf, usedOf, rowAt};
 
+pub mod sound;
+
 // The store's octets, a row's, and those of the areas: the header, the rows, the entries.
 pub const SIZE: usize = 16384;
 
