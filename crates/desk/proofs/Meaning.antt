@@ -154,7 +154,7 @@ module _ (row : List ℕ) (size : length row ≡ rowWidth) (rs : List (List ℕ)
   -- the locks of the row are those of its desk
   locks-of : locksOf row ≡ deskIn row rs .locks
   unfolding deskOf fields field upto
-  locks-of = ap (λ (n : ℕ). locksIn n (part 459 640 row)) (sym (number-at 458 row (omega arith)))
+  locks-of = ap (λ (n : ℕ). locksIn n (part 459 640 row)) (sym (number-at 458 row))
 
   valid-of : u16At 448 row ≡ deskIn row rs .valid
   unfolding deskOf fields field upto u16At

@@ -80,10 +80,12 @@ pub number-one : (x : ℕ) → number (x ∷ []) ≡ x
 unfolding number
 number-one x = omega arith
 
-pub number-at : (at : ℕ) (s : List ℕ) → at < length s → number (part at 1 s) ≡ getD s at 0
-number-at at s h =
-    let z : getD s (at + 0) 0 ≡ getD s at 0 = rw add-zero in
-    omega (arith, number-more at 0 s (omega arith), number-none at s)
+pub number-at : (at : ℕ) (s : List ℕ) → number (part at 1 s) ≡ getD s at 0
+unfolding number part
+number-at zero [] = refl
+number-at zero (x ∷ s) = omega arith
+number-at (suc at) [] = refl
+number-at (suc at) (x ∷ s) = number-at at s
 
 -- ---- two octets
 

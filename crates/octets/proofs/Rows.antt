@@ -18,6 +18,13 @@ unfolding rows
 rows-length zero n s = refl
 rows-length (suc m) n s = ap suc (rows-length m n (drop n s))
 
+-- row d
+pub rows-at : (m n d : ℕ) (s : List ℕ) → d < m → getD (rows m n s) d [] ≡ part (n * d) n s
+unfolding rows part
+rows-at zero n d s h = absurd (omega arith)
+rows-at (suc m) n zero s h = rw mul-zero
+rows-at (suc m) n (suc d) s h = rows-at m n d (drop n s) (omega arith) ∙ rw (mul-suc, add-comm (n * d) n, drop-drop)
+
 -- a put in row d changes that row alone
 pub rows-put : (m n d i : ℕ) (xs s : List ℕ) → d < m → i + length xs ≤ n → rows m n (put (d * n + i) xs s) ≡ set (rows m n s) d (put i xs (getD (rows m n s) d []))
 unfolding rows
@@ -133,10 +140,3 @@ pub rows-octets : (m n : ℕ) (s : List ℕ) → Octets s → All Octets (rows m
 unfolding rows part
 rows-octets zero n s h = tt
 rows-octets (suc m) n s h = (octets-part 0 n s h, rows-octets m n (drop n s) (λ i. rw getD-drop (h (n + i))))
-
--- row d is a part
-pub rows-at : (m n d : ℕ) (s : List ℕ) → d < m → getD (rows m n s) d [] ≡ part (n * d) n s
-unfolding rows part
-rows-at zero n d s h = absurd (omega arith)
-rows-at (suc m) n zero s h = rw mul-zero
-rows-at (suc m) n (suc d) s h = rows-at m n d (drop n s) (omega arith) ∙ rw (mul-suc, add-comm (n * d) n, drop-drop)

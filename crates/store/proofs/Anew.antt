@@ -20,6 +20,7 @@ use Rattle.rules.specs.Box.{deskAt}
 use Rattle.store.specs.Layout.{recounted, storeSize, rowWidth, sizeOf, header, startOf, usedOf, area, areas, rowAt, rowOf}
 use Rattle.store.specs.View.{deskIn, boxFrom, rowsIn, entriesIn, inUse, viewOf, view}
 use Rattle.store.specs.Sound.{rowSound, tableSound, deskSound}
+use Rattle.store.proofs.LentAreas.{row-in}
 use Rattle.store.proofs.Places.{used-counted, counted-fine}
 use Rattle.store.proofs.Boxes.{box-at, box-row, box-records}
 use Rattle.store.proofs.Changes.{Sound, area-length, area-0, into, into-area, header-kept, header-counted, header-length, used-now, into-count}
@@ -28,8 +29,7 @@ use Rattle.store.proofs.Changes.{Sound, area-length, area-0, into, into
 
 module _ (s : List ℕ) (f : Sound s) (d : ℕ) (h : d < desks) where
   pub row-is : getD (rowsIn (areas s)) d [] ≡ rowOf d s
-  unfolding areas upto area
-  row-is = rows-at desks rowWidth d (area s 1) h ∙ part-part (rowWidth * d) rowWidth (startOf (header s) 1) (sizeOf 1) s (omega arith)
+  row-is = row-in s d h
 
   pub row-inside : rowAt d s + rowWidth ≤ length s
   row-inside = omega (arith, f .head .within 1 (lit< tt), f .size)

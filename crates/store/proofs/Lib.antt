@@ -8,3 +8,5 @@ pub mod Fields
 pub mod Blocks
 pub mod FreshRows
 pub mod FreshBox
+pub mod FieldOctets
+pub mod LentAreas

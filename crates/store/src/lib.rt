@@ -5,6 +5,7 @@ ghost use lib.ListN.{length};
 ghost use Rattle.store.specs.Layout.{sizeOf, header, startOf, usedOf, rowAt};
 
 pub mod fresh;
+pub mod sound;
 
 // The store's octets, a row's, and those of the areas: the header, the rows, the entries.
 pub const SIZE: usize = 16384;

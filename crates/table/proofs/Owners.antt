@@ -1,6 +1,6 @@
 -- Laws of `ownersBelow`: every entry has a desk for its owner. Assumes nothing.
 use mathlib.Core.Path.{_≡_, refl, _∙_}
-use Prim.Native.Nat.{ℕ, zero, suc, _<_}
+use Prim.Native.Nat.{ℕ, zero, suc, _≤_, _<_}
 use native.Mathlib.Decide.{decLt}
 use native.Mathlib.Omega.{arith}
 use mathlib.Core.Bool.{Bool, true, false, cond, _&&_}
@@ -49,3 +49,11 @@ ownersBelow-at m (suc n) i t o h =
       | yes l ↦ ownersBelow-at m n i t (hs .0) l
       | no g ↦ let q : n ≡ i = omega arith in rw (← q) (ltb-true (owner e) m (both (ltb (owner e) m) true (hs .1) .0))
     ]
+
+-- an owner that is no desk
+pub ownersBelow-past : (m n i : ℕ) (t : List ℕ) → i < n → m ≤ owner (entryAt i t) → ownersBelow m (entries n t) ≡ false
+ownersBelow-past m n i t h p = go (ownersBelow m (entries n t)) refl
+  where
+    go : (b : Bool) → ownersBelow m (entries n t) ≡ b → b ≡ false
+    go true q = absurd (omega (arith, ownersBelow-at m n i t q h))
+    go false q = refl

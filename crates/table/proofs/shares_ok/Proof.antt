@@ -1,24 +1,21 @@
--- `table::shares_ok` meets its contract: after d turns the first d desks are tested. Assumes nothing.
+-- `table::shares_ok` meets its contract: after d turns the first d counts are tested. Assumes nothing.
 use mathlib.Core.Path.{_≡_, sym}
 use mathlib.Core.Bool.{true}
-use Prim.Native.Nat.{_-_, _≤_, _<_}
+use Prim.Native.Nat.{_-_, _≤_}
 use native.Mathlib.Omega.{arith}
+use borrow.Author.Tests.{le-leb, lt-leb}
 use Rattle.octets.specs.Tests.{every}
 use Rattle.octets.proofs.Every.{every-none, every-more, every-false, every-end}
-use Rattle.table.specs.Entries.{desks, entries, shareKept, sharesKept}
-use Rattle.table.proofs.Tallies.{share-within, share-past}
+use Rattle.table.specs.Entries.{desks, countKept}
 use borrow.Author.Needs.{needs}
 use Rattle.table.proofs.shares_ok.Statement.{statement}
 use Rattle.table.proofs.shares_ok.Tie as tie
 
 abbrev Inv-loop : tie.InvT-loop
-Inv-loop t n c d₀ d = (d ≤ desks) × (every d (shareKept (entries n t)) ≡ true)
+Inv-loop c d₀ d = (d ≤ desks) × (every d (countKept c) ≡ true)
 
 abbrev μ-loop : tie.MeasureT-loop
-μ-loop t n c d₀ d = desks - d
-
-tally-requires : tie.Need-tally-requires Inv-loop μ-loop
-tally-requires c κs = search needs
+μ-loop c d₀ d = desks - d
 
 loop-holds : tie.Need-loop-holds Inv-loop μ-loop
 loop-holds c = (omega arith, every-none _)
@@ -30,11 +27,7 @@ array-read-if1 : tie.Need-array-read-if1 Inv-loop μ-loop
 array-read-if1 c = search needs
 
 returns : tie.Need-returns Inv-loop μ-loop
-unfolding sharesKept
-returns c =
-    let l = c .before .before in
-    let few : l .loop .d < desks = omega arith in
-    sym (every-false desks _ (l .loop .d) few (share-past (l .before .tally .ensures) (l .loop .d) few (omega arith)))
+returns c = sym (every-false desks _ (c .before .before .loop .d) (omega arith) (lt-leb _ _ (c .if1 .taken)))
 
 add-d : tie.Need-add-d Inv-loop μ-loop
 add-d c = search needs
@@ -44,11 +37,10 @@ loop-less c = search needs
 
 loop-again : tie.Need-loop-again Inv-loop μ-loop
 loop-again c =
-    let l = c .before .before in
-    (omega arith, every-more (l .loop .d) _ (l .loop .inv .1) (share-within (l .before .tally .ensures) (l .loop .d) (omega arith) (omega arith)))
+    let l = c .before .before .loop in
+    (omega arith, every-more (l .d) _ (l .inv .1) (le-leb _ _ (c .if1 .left)))
 
 returns-2 : tie.Need-returns-2 Inv-loop μ-loop
-unfolding sharesKept
 returns-2 c = sym (every-end desks _ (c .before .loop .d) (c .before .loop .inv .1) (omega arith))
 
 pub shares-ok-spec : {M : Type 1} → statement M
@@ -57,7 +49,6 @@ shares-ok-spec =
     (tie.spec
     Inv-loop
     μ-loop
-    tally-requires
     loop-holds
     mul-if1
     array-read-if1

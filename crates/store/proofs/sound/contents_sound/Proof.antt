@@ -1,0 +1,149 @@
+-- `store::sound::contents_sound` meets its contract: after d turns the first d rows are tested. Assumes nothing.
+use Prim.Native.Nat.{ℕ, _-_, _≤_}
+use mathlib.Core.Path.{_≡_, sym, ap, _∙_}
+use mathlib.Core.Bool.{true}
+use mathlib.Core.List.{[]}
+use native.Mathlib.Omega.{arith}
+use lib.Dec.{lit<}
+use lib.ListN.{getD, length-take, length-drop}
+use Rattle.octets.specs.Tests.{every}
+use Rattle.octets.proofs.Tests.{passed, failed}
+use Rattle.octets.proofs.Every.{every-none, every-more, every-false, every-end}
+use Rattle.table.specs.Entries.{desks, ownersBelow, sharesKept, Counted}
+use Rattle.table.proofs.Tallies.{counted-shares}
+use Rattle.store.specs.Layout.{areas}
+use Rattle.store.specs.View.{rowsIn, entriesIn}
+use Rattle.store.specs.Sound.{tableSound, deskSound, rowSound, contents}
+use Rattle.store.proofs.Places.{fine-facts}
+use Rattle.store.proofs.LentAreas.{entries-lent}
+use borrow.Author.Needs.{needs}
+use Rattle.store.proofs.sound.contents_sound.Statement.{statement}
+use Rattle.store.proofs.sound.contents_sound.Tie as tie
+
+abbrev Inv-loop : tie.InvT-loop
+Inv-loop s at n counts d₀ d = (d ≤ desks) × (every d (deskSound (rowsIn (areas s)) (entriesIn (areas s))) ≡ true)
+
+abbrev μ-loop : tie.MeasureT-loop
+μ-loop s at n counts d₀ d = desks - d
+
+start-requires : tie.Need-start-requires Inv-loop μ-loop
+start-requires c κs = search needs
+
+used-requires : tie.Need-used-requires Inv-loop μ-loop
+used-requires c κs = search needs
+
+add-census : tie.Need-add-census Inv-loop μ-loop
+add-census c = search needs
+
+sub-census : tie.Need-sub-census Inv-loop μ-loop
+sub-census c = search needs
+
+part-census-start : tie.Need-part-census-start Inv-loop μ-loop
+part-census-start c = search needs
+
+part-census-end : tie.Need-part-census-end Inv-loop μ-loop
+part-census-end c = omega (arith, fine-facts _ (c .before .before .before .pre .1) .within 2 (lit< tt))
+
+census-requires : tie.Need-census-requires Inv-loop μ-loop
+census-requires c κs =
+    let f = fine-facts _ (c .before .before .before .before .pre .1) in
+    simp (length-take, length-drop) (omega (arith, f .within 2 (lit< tt), f .used), omega (arith, f .used))
+
+-- the count is of the entries in use
+counted : (c : tie.After-census Inv-loop μ-loop) → Counted (entriesIn (areas (c .before .before .before .before .before .args .s .now))) (c .census .result)
+counted c =
+    let u = c .before .before in
+    let a = u .before in
+    rw (← entries-lent (a .before .before .args .s .now) _ _ (a .start .ensures .0) (u .used .ensures .0)) (c .census .ensures)
+
+-- every owner is a desk, and the shares are kept
+owners : (c : tie.Else1 Inv-loop μ-loop) → ownersBelow desks (entriesIn (areas (c .before .before .before .before .before .before .before .args .s .now))) ≡ true
+owners c = passed (counted (c .before .before) .told) (c .if1 .left)
+
+told : (c : tie.After-shares-ok Inv-loop μ-loop) → c .shares-ok .result ≡ sharesKept (entriesIn (areas (c .before .before .before .before .before .before .before .before .before .args .s .now)))
+told c = c .shares-ok .ensures ∙ counted-shares (counted (c .before .before .before .before)) (owners (c .before .before))
+
+sound-table : (c : tie.Else2 Inv-loop μ-loop) → tableSound (entriesIn (areas (c .before .before .before .before .before .before .before .before .before .before .args .s .now))) ≡ true
+unfolding tableSound
+sound-table c = rw (owners (c .before .before .before), passed (told (c .before)) (c .if2 .left))
+
+returns : tie.Need-returns Inv-loop μ-loop
+unfolding contents tableSound
+returns c = rw (failed (counted (c .before .before) .told) (c .if1 .taken))
+
+shares-ok-requires : tie.Need-shares-ok-requires Inv-loop μ-loop
+shares-ok-requires c κs = search needs
+
+returns-2 : tie.Need-returns-2 Inv-loop μ-loop
+unfolding contents tableSound
+returns-2 c = rw (owners (c .before .before .before), failed (told (c .before)) (c .if2 .taken))
+
+loop-holds : tie.Need-loop-holds Inv-loop μ-loop
+loop-holds c = (omega arith, every-none _)
+
+mul-desk-sound : tie.Need-mul-desk-sound Inv-loop μ-loop
+mul-desk-sound c = search needs
+
+array-read-desk-sound : tie.Need-array-read-desk-sound Inv-loop μ-loop
+array-read-desk-sound c = search needs
+
+desk-sound-requires : tie.Need-desk-sound-requires Inv-loop μ-loop
+desk-sound-requires c κs = search needs
+
+-- what was told of desk d
+desk : (c : tie.After-desk-sound Inv-loop μ-loop)
+    → let s = c .before .before .before .before .before .before .before .before .before .before .before .before .before .args .s .now in
+    c .desk-sound .result ≡ deskSound (rowsIn (areas s)) (entriesIn (areas s)) (c .before .before .loop .d)
+desk c =
+    let l = c .before .before in
+    let e = l .before .before .before .before in
+    rw (← counted (e .before .before) .count (owners e) (l .loop .d) (omega arith)) (c .desk-sound .ensures)
+
+returns-3 : tie.Need-returns-3 Inv-loop μ-loop
+unfolding contents
+returns-3 c =
+    let l = c .before .before .before in
+    rw (sound-table (l .before)) (sym (every-false desks _ (l .loop .d) (omega arith) (failed (desk (c .before)) (c .if3 .taken))))
+
+add-d : tie.Need-add-d Inv-loop μ-loop
+add-d c = search needs
+
+loop-less : tie.Need-loop-less Inv-loop μ-loop
+loop-less c = search needs
+
+loop-again : tie.Need-loop-again Inv-loop μ-loop
+loop-again c =
+    let l = c .before .before .before in
+    (omega arith, every-more (l .loop .d) _ (l .loop .inv .1) (passed (desk (c .before)) (c .if3 .left)))
+
+returns-4 : tie.Need-returns-4 Inv-loop μ-loop
+unfolding contents
+returns-4 c =
+    let l = c .before in
+    rw (sound-table (l .before)) (sym (every-end desks _ (l .loop .d) (l .loop .inv .1) (omega arith)))
+
+pub contents-sound-spec : {M : Type 1} → statement M
+contents-sound-spec =
+    tie.close
+    (tie.spec
+    Inv-loop
+    μ-loop
+    start-requires
+    used-requires
+    add-census
+    sub-census
+    part-census-start
+    part-census-end
+    census-requires
+    returns
+    shares-ok-requires
+    returns-2
+    loop-holds
+    mul-desk-sound
+    array-read-desk-sound
+    desk-sound-requires
+    returns-3
+    add-d
+    loop-less
+    loop-again
+    returns-4)

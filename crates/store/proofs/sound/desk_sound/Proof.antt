@@ -1,0 +1,44 @@
+-- `store::sound::desk_sound` meets its contract. Assumes nothing.
+use native.Mathlib.Omega.{arith}
+use lib.Dec.{lit<}
+use Rattle.store.proofs.Places.{fine-facts}
+use Rattle.store.proofs.LentAreas.{row-lent}
+use borrow.Author.Needs.{needs}
+use Rattle.store.proofs.sound.desk_sound.Statement.{statement}
+use Rattle.store.proofs.sound.desk_sound.Tie as tie
+
+row-at-requires : tie.Need-row-at-requires
+row-at-requires c κs = search needs
+
+add-row-sound : tie.Need-add-row-sound
+add-row-sound c = search needs
+
+sub-row-sound : tie.Need-sub-row-sound
+sub-row-sound c = search needs
+
+part-row-sound-start : tie.Need-part-row-sound-start
+part-row-sound-start c = search needs
+
+part-row-sound-end : tie.Need-part-row-sound-end
+part-row-sound-end c = omega (arith, fine-facts _ (c .before .before .pre .2) .within 1 (lit< tt))
+
+row-sound-requires : tie.Need-row-sound-requires
+row-sound-requires c κs = search needs
+
+returns : tie.Need-returns
+returns c =
+    let r = c .before .before in
+    let z = r .before .before in
+    rw (← row-lent (z .args .s .now) (z .args .d) (r .row-at .result) (z .pre .0) (r .row-at .ensures .0)) (c .row-sound .ensures)
+
+pub desk-sound-spec : {M : Type 1} → statement M
+desk-sound-spec =
+    tie.close
+    (tie.spec
+    row-at-requires
+    add-row-sound
+    sub-row-sound
+    part-row-sound-start
+    part-row-sound-end
+    row-sound-requires
+    returns)

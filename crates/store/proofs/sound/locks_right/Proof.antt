@@ -1,0 +1,55 @@
+-- `store::sound::locks_right` meets its contract. Assumes nothing.
+use Prim.Native.Nat.{_≤_}
+use mathlib.Core.Path.{refl}
+use lib.Dec.{lit<}
+use lib.ListN.{getD, length-take, length-drop}
+use native.Mathlib.Omega.{arith}
+use Rattle.octets.specs.Parts.{part}
+use Rattle.store.specs.Sound.{locksRight}
+use Rattle.store.proofs.FieldOctets.{field-part, field-octet, field-pair, locks-few}
+use borrow.Author.Needs.{needs}
+use Rattle.store.proofs.sound.locks_right.Statement.{statement}
+use Rattle.store.proofs.sound.locks_right.Tie as tie
+
+sub-legal : tie.Need-sub-legal
+sub-legal c = search needs
+
+part-legal-start : tie.Need-part-legal-start
+part-legal-start c = search needs
+
+part-legal-end : tie.Need-part-legal-end
+part-legal-end c = search needs
+
+shared-slice-read-legal : tie.Need-shared-slice-read-legal
+shared-slice-read-legal c = search needs
+
+cast-legal : tie.Need-cast-legal
+cast-legal c = omega (arith, c .shared-slice-known2 .given 458)
+
+get16-requires : tie.Need-get16-requires
+get16-requires c κs = search needs
+
+legal-requires : tie.Need-legal-requires
+legal-requires c κs =
+    let z = c .before .before .before .before in
+    let few : getD (z .args .row .now) 458 0 ≤ 64 = locks-few _ (z .pre .1) in
+    (few, simp (length-take, length-drop) (omega arith))
+
+returns : tie.Need-returns
+unfolding locksRight part
+returns c =
+    let row = c .before .before .before .before .before .args .row .now in
+    rw (field-pair row 2 (lit< tt) refl, field-octet row 8 (lit< tt) refl, field-part row 9 (lit< tt), ← c .before .get16 .ensures) (c .legal .ensures)
+
+pub locks-right-spec : {M : Type 1} → statement M
+locks-right-spec =
+    tie.close
+    (tie.spec
+    sub-legal
+    part-legal-start
+    part-legal-end
+    shared-slice-read-legal
+    cast-legal
+    get16-requires
+    legal-requires
+    returns)

@@ -1,0 +1,254 @@
+// Whether a store is sound: the header first, then what its areas hold. Areas and rows are lent and never copied.
+use crate::row_at;
+use crate::size;
+use crate::start;
+use crate::used;
+use crate::ROW;
+use crate::SIZE;
+ghost use mathlib.Core.Path.{_≡_};
+ghost use mathlib.Core.Bool.{true};
+ghost use mathlib.Core.List.{[]};
+ghost use Prim.Native.Nat.{_+_, _≤_, _<_};
+ghost use lib.ListN.{length, getD};
+ghost use Rattle.octets.specs.Tests.{every};
+ghost use Rattle.octets.specs.Parts.{part};
+ghost use Rattle.octets.specs.Areas.{apartb, pairClear, clearBelow, clear};
+ghost use Rattle.timer.specs.Clock.{timerLegal, timerFrom};
+ghost use Rattle.rules.specs.Config.{blockAt, lineLegal};
+ghost use Rattle.store.specs.Layout.{storeSize, rowWidth, sizeOf, header, startOf, areas};
+ghost use Rattle.store.specs.Rows.{fields};
+ghost use Rattle.store.specs.View.{rowsIn};
+ghost use Rattle.store.specs.Sound.{ends, fine, countsRight, blocksLegal, markRight, dueRight, locksRight, rowSound, contents, sound};
+
+// ---- the header
+
+// Whether two places share no octet.
+fn apart(at: usize, n: usize, there: usize, m: usize) -> bool
+    requires { ⌜ (at + n < 1000000) × (there + m < 1000000) ⌝ }
+    ensures { λ r. ⌜ r ≡ apartb at n there m ⌝ }
+{
+    if at + n <= there {
+        return true;
+    }
+    there + m <= at
+}
+
+// Whether area k ends within the store.
+fn inside(s: &[u8], k: usize) -> bool
+    requires { ⌜ (k < 3) × (6 ≤ length (now s)) ⌝ }
+    ensures { λ r. ⌜ r ≡ ends (header (now (s .entry))) k ⌝ }
+{
+    start(s, k) + size(k) <= SIZE
+}
+
+// Whether areas i and j share no octet.
+fn clear_pair(s: &[u8], i: usize, j: usize) -> bool
+    requires { ⌜ (i < 3) × (j < 3) × (6 ≤ length (now s)) ⌝ }
+    ensures { λ r. ⌜ r ≡ pairClear (startOf (header (now (s .entry)))) sizeOf j i ⌝ }
+{
+    apart(start(s, i), size(i), start(s, j), size(j))
+}
+
+// Whether each area ends within the store.
+fn all_inside(s: &[u8]) -> bool
+    requires { ⌜ 6 ≤ length (now s) ⌝ }
+    ensures { λ r. ⌜ r ≡ every 3 (ends (header (now (s .entry)))) ⌝ }
+{
+    let mut k: usize = 0;
+    while k < 3 {
+        if !inside(s, k) {
+            return false;
+        }
+        k += 1;
+    }
+    true
+}
+
+// Whether area j shares no octet with an area before it.
+fn clear_below(s: &[u8], j: usize) -> bool
+    requires { ⌜ (j < 3) × (6 ≤ length (now s)) ⌝ }
+    ensures { λ r. ⌜ r ≡ clearBelow (startOf (header (now (s .entry)))) sizeOf j ⌝ }
+{
+    let mut i: usize = 0;
+    while i < j {
+        if !clear_pair(s, i, j) {
+            return false;
+        }
+        i += 1;
+    }
+    true
+}
+
+// Whether no two areas share an octet.
+fn all_clear(s: &[u8]) -> bool
+    requires { ⌜ 6 ≤ length (now s) ⌝ }
+    ensures { λ r. ⌜ r ≡ clear 3 (startOf (header (now (s .entry)))) sizeOf ⌝ }
+{
+    let mut j: usize = 0;
+    while j < 3 {
+        if !clear_below(s, j) {
+            return false;
+        }
+        j += 1;
+    }
+    true
+}
+
+// Whether the header is: areas inside and clear of each other, the count of entries in range.
+fn header_fine(s: &[u8]) -> bool
+    requires { ⌜ 6 ≤ length (now s) ⌝ }
+    ensures { λ r. ⌜ r ≡ fine (header (now (s .entry))) ⌝ }
+{
+    if !all_inside(s) {
+        return false;
+    }
+    if !all_clear(s) {
+        return false;
+    }
+    used(s) <= 512
+}
+
+// ---- a row
+
+// Whether login and mark are 0 or 1, TAB-START below 64, and the locks at most 64.
+fn counts_right(row: &[u8]) -> bool
+    requires { ⌜ length (now row) ≡ rowWidth ⌝ }
+    ensures { λ r. ⌜ r ≡ countsRight (fields (now (row .entry))) ⌝ }
+{
+    if row[450] > 1 {
+        return false;
+    }
+    if row[455] > 1 {
+        return false;
+    }
+    if row[457] >= 64 {
+        return false;
+    }
+    row[458] <= 64
+}
+
+// Whether the timer is in its ranges.
+fn timer_right(row: &[u8]) -> bool
+    requires { ⌜ length (now row) ≡ rowWidth ⌝ }
+    ensures { λ r. ⌜ r ≡ timerLegal (timerFrom (getD (fields (now (row .entry))) 4 [])) ⌝ }
+{
+    timer::legal(timer::read(row, 451))
+}
+
+// Whether block 7 of the memory at a place of the row is legal: it begins at the memory's octet 98.
+fn block_legal(row: &[u8], at: usize) -> bool
+    requires { ⌜ at + 224 ≤ length (now row) ⌝ }
+    ensures { λ r. ⌜ r ≡ lineLegal (blockAt 7 (part at 224 (now (row .entry)))) ⌝ }
+{
+    rules::shape_legal(row[at + 98], row[at + 99], row[at + 101], row[at + 111])
+}
+
+// Whether block 7 of both memories is legal.
+fn blocks_legal(row: &[u8]) -> bool
+    requires { ⌜ length (now row) ≡ rowWidth ⌝ }
+    ensures { λ r. ⌜ r ≡ blocksLegal (fields (now (row .entry))) ⌝ }
+{
+    if !block_legal(row, 0) {
+        return false;
+    }
+    block_legal(row, 224)
+}
+
+// Whether the mark stands only where 64 records are held.
+fn mark_right(row: &[u8], held: u16) -> bool
+    requires { ⌜ length (now row) ≡ rowWidth ⌝ }
+    ensures { λ r. ⌜ r ≡ markRight held (fields (now (row .entry))) ⌝ }
+{
+    if row[455] != 1 {
+        return true;
+    }
+    held == 64
+}
+
+// Whether the removal due is no more than the records held.
+fn due_right(row: &[u8], held: u16) -> bool
+    requires { ⌜ length (now row) ≡ rowWidth ⌝ }
+    ensures { λ r. ⌜ r ≡ dueRight held (fields (now (row .entry))) ⌝ }
+{
+    row[456] as u16 <= held
+}
+
+// Whether the locks are a sound list.
+fn locks_right(row: &[u8]) -> bool
+    requires { ⌜ (length (now row) ≡ rowWidth) × (countsRight (fields (now row)) ≡ true) ⌝ }
+    ensures { λ r. ⌜ r ≡ locksRight (fields (now (row .entry))) ⌝ }
+{
+    locks::legal(&row[459..1099], row[458] as usize, octets::get16(row, 448))
+}
+
+// Whether a row is sound, of a desk that holds so many records.
+fn row_sound(row: &[u8], held: u16) -> bool
+    requires { ⌜ length (now row) ≡ rowWidth ⌝ }
+    ensures { λ r. ⌜ r ≡ rowSound held (now (row .entry)) ⌝ }
+{
+    if !counts_right(row) {
+        return false;
+    }
+    if !timer_right(row) {
+        return false;
+    }
+    if !blocks_legal(row) {
+        return false;
+    }
+    if !mark_right(row, held) {
+        return false;
+    }
+    if !due_right(row, held) {
+        return false;
+    }
+    locks_right(row)
+}
+
+// ---- the contents
+
+// Whether the row of desk d is sound, which holds so many records.
+fn desk_sound(s: &[u8], d: usize, held: u16) -> bool
+    requires { ⌜ (d < 8) × (length (now s) ≡ storeSize) × (fine (header (now s)) ≡ true) ⌝ }
+    ensures { λ r. ⌜ r ≡ rowSound held (getD (rowsIn (areas (now (s .entry)))) d []) ⌝ }
+{
+    let at = row_at(s, d);
+    row_sound(&s[at..at + ROW], held)
+}
+
+// Whether the records have desks for owners, at most 64 each, and each desk's row is sound.
+fn contents_sound(s: &[u8]) -> bool
+    requires { ⌜ (length (now s) ≡ storeSize) × (fine (header (now s)) ≡ true) ⌝ }
+    ensures { λ r. ⌜ r ≡ contents (areas (now (s .entry))) ⌝ }
+{
+    let at = start(s, 2);
+    let n = used(s);
+    let c = table::census(&s[at..at + 7168], n);
+    if !c.ok {
+        return false;
+    }
+    let counts = c.counts;
+    if !table::shares_ok(counts) {
+        return false;
+    }
+    let mut d: usize = 0;
+    while d < 8 {
+        if !desk_sound(s, d, counts[d]) {
+            return false;
+        }
+        d += 1;
+    }
+    true
+}
+
+// Whether a store of any length is sound.
+pub fn test(s: &[u8]) -> bool
+    ensures { λ r. ⌜ r ≡ sound (now (s .entry)) ⌝ }
+{
+    if s.len() != SIZE {
+        return false;
+    }
+    if !header_fine(s) {
+        return false;
+    }
+    contents_sound(s)
+}
