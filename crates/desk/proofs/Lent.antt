@@ -5,6 +5,7 @@ use mathlib.Core.List.{List, _++_}
 use native.Mathlib.Omega.{arith}
 use lib.ListN.{length, take, drop, set, getD}
 use Rattle.octets.specs.Parts.{part, put}
+use Rattle.octets.specs.Numbers.{u16At}
 use Rattle.octets.proofs.Lent.{put-lent}
 use Rattle.locks.specs.declared.Lock.{Lock}
 use Rattle.locks.specs.Locks.{added, sweptOf, locksOctets}
@@ -12,7 +13,7 @@ use Rattle.locks.proofs.Stored.{locks-octets-length, locks-in-length}
 use Rattle.locks.proofs.Sweeps.{swept-length}
 use Rattle.locks.proofs.Sound.{added-few}
 use Rattle.store.specs.Layout.{rowWidth}
-use Rattle.desk.specs.Row.{locksOf, locksRow}
+use Rattle.desk.specs.Row.{locksOf, locksRow, lockedRow}
 
 module _ (row : List ℕ) (few : getD row 458 0 ≤ 64) where
   pub swept-few : length (sweptOf (locksOf row)) ≤ 64
@@ -29,3 +30,10 @@ unfolding put
 locks-back row ls ys n size few e h =
     let l : length (locksOctets ls) ≤ 640 = omega (arith, locks-octets-length ls) in
     rw (put-lent 459 640 0 (locksOctets ls) ys row e (omega arith) (omega arith), h)
+
+-- the same where a lock of `valid` ticks was added
+pub locked-back : (row : List ℕ) (uid valid : ℕ) (ys : List ℕ) (n : ℕ) → length row ≡ rowWidth → getD row 458 0 ≤ 64 → valid ≡ u16At 448 row
+    → ys ≡ put 0 (locksOctets (added uid valid (locksOf row))) (take 640 (drop 459 row)) → n ≡ length (added uid valid (locksOf row))
+    → set (take 459 row ++ (ys ++ drop 640 (drop 459 row))) 458 n ≡ lockedRow uid row
+unfolding lockedRow
+locked-back row uid valid ys n size few v e h = rw (← v) (locks-back row (added uid valid (locksOf row)) ys n size (locked-few row few uid valid) e h)

@@ -2,8 +2,7 @@
 use native.Mathlib.Omega.{arith}
 use borrow.Author.Needs.{needs}
 use Rattle.octets.specs.Parts.{part}
-use Rattle.desk.proofs.Lent.{locked-few, locks-back}
-use Rattle.desk.specs.Row.{lockedRow}
+use Rattle.desk.proofs.Lent.{locked-few, locked-back}
 use Rattle.desk.proofs.row.add_lock.Statement.{statement}
 use Rattle.desk.proofs.row.add_lock.Tie as tie
 
@@ -16,13 +15,25 @@ cast-row c =
     record { fits = omega (arith, locked-few (z .args .row .now) (z .pre .1) (z .args .uid) (g .get16 .result)) }
 
 returns : tie.Need-returns
-unfolding part lockedRow
+unfolding part
 returns c =
     let k = c .before .before in
     let g = k .before .before in
     let z = g .before .before .before .before in
-    let row = z .args .row .now in
-    rw (← g .get16 .ensures) (locks-back row _ _ _ (z .pre .0) (locked-few row (z .pre .1) _ _) (k .add .ensures .1) (k .add .ensures .0))
+    locked-back (z .args .row .now) (z .args .uid) (g .get16 .result) _ _ (z .pre .0) (z .pre .1) (g .get16 .ensures) (k .add .ensures .1) (k .add .ensures .0)
 
 pub add-lock-spec : {M : Type 1} → statement M
-add-lock-spec = tie.close (tie.spec (λ c. search needs) (λ c. search needs) (λ c κs. search needs) (λ c. search needs) (λ c. search needs) (λ c. search needs) (λ c κs. search needs) cast-row (λ c. search needs) (λ c. search needs) returns)
+add-lock-spec =
+    tie.close
+    (tie.spec
+    (λ c. search needs)
+    (λ c. search needs)
+    (λ c κs. search needs)
+    (λ c. search needs)
+    (λ c. search needs)
+    (λ c. search needs)
+    (λ c κs. search needs)
+    cast-row
+    (λ c. search needs)
+    (λ c. search needs)
+    returns)

@@ -14,4 +14,12 @@ unfolding writtenRow savedRow
 returns c = search needs
 
 pub save-block-spec : {M : Type 1} → statement M
-save-block-spec = tie.close (tie.spec (λ c. search needs) (λ c. search needs) (λ c. search needs) move-within-requires (λ c. search needs) returns)
+save-block-spec =
+    tie.close
+    (tie.spec
+    (λ c. search needs)
+    (λ c. search needs)
+    (λ c. search needs)
+    move-within-requires
+    (λ c. search needs)
+    returns)

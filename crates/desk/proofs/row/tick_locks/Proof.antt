@@ -23,4 +23,16 @@ returns c =
     locks-back row _ _ _ (z .pre .0) (swept-few row (z .pre .1)) (k .tick .ensures .1) (k .tick .ensures .0)
 
 pub tick-locks-spec : {M : Type 1} → statement M
-tick-locks-spec = tie.close (tie.spec (λ c. search needs) (λ c. search needs) (λ c. search needs) (λ c. search needs) (λ c. search needs) (λ c κs. search needs) cast-row (λ c. search needs) (λ c. search needs) returns)
+tick-locks-spec =
+    tie.close
+    (tie.spec
+    (λ c. search needs)
+    (λ c. search needs)
+    (λ c. search needs)
+    (λ c. search needs)
+    (λ c. search needs)
+    (λ c κs. search needs)
+    cast-row
+    (λ c. search needs)
+    (λ c. search needs)
+    returns)
