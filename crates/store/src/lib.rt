@@ -7,12 +7,35 @@ ghost use Rattle.store.specs.Layout.{sizeOf, header, startOf, usedOf, ro
 pub mod fresh;
 pub mod sound;
 
-// The store's octets, a row's, and those of the areas: the header, the rows, the entries.
+// The store's octets, a row's, the table's and how many entries it has, and those of the areas: the header, the rows, the table.
 pub const SIZE: usize = 16384;
 
 pub const ROW: usize = 1099;
 
-const SIZES: [usize; 3] = [6, 8792, 7168];
+pub const TABLE: usize = 7168;
+
+pub const ENTRIES: usize = 512;
+
+const SIZES: [usize; 3] = [6, 8792, TABLE];
+
+// Where the fields of a row begin, from its first octet on: RAM is at 0.
+pub const EEPROM: usize = 224;
+
+pub const VALID: usize = 448;
+
+pub const LOGIN: usize = 450;
+
+pub const TIMER: usize = 451;
+
+pub const MARK: usize = 455;
+
+pub const DUE: usize = 456;
+
+pub const TAB_START: usize = 457;
+
+pub const LOCKED: usize = 458;
+
+pub const LOCKS: usize = 459;
 
 // How many octets area k has.
 pub fn size(k: usize) -> usize

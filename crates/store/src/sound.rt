@@ -1,10 +1,21 @@
 // Whether a store is sound: the header first, then what its areas hold. Areas and rows are lent and never copied.
+use crate::DUE;
+use crate::EEPROM;
+use crate::ENTRIES;
+use crate::LOCKED;
+use crate::LOCKS;
+use crate::LOGIN;
+use crate::MARK;
+use crate::ROW;
+use crate::SIZE;
+use crate::TAB_START;
+use crate::TABLE;
+use crate::TIMER;
+use crate::VALID;
 use crate::row_at;
 use crate::size;
 use crate::start;
 use crate::used;
-use crate::ROW;
-use crate::SIZE;
 ghost use mathlib.Core.Path.{_≡_};
 ghost use mathlib.Core.Bool.{true};
 ghost use mathlib.Core.List.{[]};
@@ -105,7 +116,7 @@ fn header_fine(s: &[u8]) -> bool
     if !all_clear(s) {
         return false;
     }
-    used(s) <= 512
+    used(s) <= ENTRIES
 }
 
 // ---- a row
@@ -115,16 +126,16 @@ fn counts_right(row: &[u8]) -> bool
     requires { ⌜ length (now row) ≡ rowWidth ⌝ }
     ensures { λ r. ⌜ r ≡ countsRight (fields (now (row .entry))) ⌝ }
 {
-    if row[450] > 1 {
+    if row[LOGIN] > 1 {
         return false;
     }
-    if row[455] > 1 {
+    if row[MARK] > 1 {
         return false;
     }
-    if row[457] >= 64 {
+    if row[TAB_START] >= 64 {
         return false;
     }
-    row[458] <= 64
+    row[LOCKED] <= 64
 }
 
 // Whether the timer is in its ranges.
@@ -132,7 +143,7 @@ fn timer_right(row: &[u8]) -> bool
     requires { ⌜ length (now row) ≡ rowWidth ⌝ }
     ensures { λ r. ⌜ r ≡ timerLegal (timerFrom (getD (fields (now (row .entry))) 4 [])) ⌝ }
 {
-    timer::legal(timer::read(row, 451))
+    timer::legal(timer::read(row, TIMER))
 }
 
 // Whether block 7 of the memory at a place of the row is legal: it begins at the memory's octet 98.
@@ -151,7 +162,7 @@ fn blocks_legal(row: &[u8]) -> bool
     if !block_legal(row, 0) {
         return false;
     }
-    block_legal(row, 224)
+    block_legal(row, EEPROM)
 }
 
 // Whether the mark stands only where 64 records are held.
@@ -159,10 +170,10 @@ fn mark_right(row: &[u8], held: u16) -> bool
     requires { ⌜ length (now row) ≡ rowWidth ⌝ }
     ensures { λ r. ⌜ r ≡ markRight held (fields (now (row .entry))) ⌝ }
 {
-    if row[455] != 1 {
+    if row[MARK] != 1 {
         return true;
     }
-    held == 64
+    held == table::SHARE
 }
 
 // Whether the removal due is no more than the records held.
@@ -170,7 +181,7 @@ fn due_right(row: &[u8], held: u16) -> bool
     requires { ⌜ length (now row) ≡ rowWidth ⌝ }
     ensures { λ r. ⌜ r ≡ dueRight held (fields (now (row .entry))) ⌝ }
 {
-    row[456] as u16 <= held
+    row[DUE] as u16 <= held
 }
 
 // Whether the locks are a sound list.
@@ -178,7 +189,11 @@ fn locks_right(row: &[u8]) -> bool
     requires { ⌜ (length (now row) ≡ rowWidth) × (countsRight (fields (now row)) ≡ true) ⌝ }
     ensures { λ r. ⌜ r ≡ locksRight (fields (now (row .entry))) ⌝ }
 {
-    locks::legal(&row[459..1099], row[458] as usize, octets::get16(row, 448))
+    locks::legal(
+        &row[LOCKS..ROW],
+        row[LOCKED] as usize,
+        octets::get16(row, VALID),
+    )
 }
 
 // Whether a row is sound, of a desk that holds so many records.
@@ -222,7 +237,7 @@ fn contents_sound(s: &[u8]) -> bool
 {
     let at = start(s, 2);
     let n = used(s);
-    let c = table::census(&s[at..at + 7168], n);
+    let c = table::census(&s[at..at + TABLE], n);
     if !c.ok {
         return false;
     }

@@ -24,23 +24,11 @@ loop-holds : tie.Need-loop-holds Inv-loop μ-loop
 unfolding rows
 loop-holds c = (omega arith, tallied-start, refl)
 
-owner-at-requires : tie.Need-owner-at-requires Inv-loop μ-loop
-owner-at-requires c κs = search needs
-
-cast-d : tie.Need-cast-d Inv-loop μ-loop
-cast-d c = search needs
-
 returns : tie.Need-returns Inv-loop μ-loop
 returns c =
     let l = c .before .before .before in
     let s = l .before .before .args in
     counted-not (ownersBelow-past desks (s .n) (l .loop .i) (s .t .now) (omega arith) (omega (arith, c .before .owner-at .ensures)))
-
-mul-c : tie.Need-mul-c Inv-loop μ-loop
-mul-c c = search needs
-
-array-read-c : tie.Need-array-read-c Inv-loop μ-loop
-array-read-c c = search needs
 
 add-c : tie.Need-add-c Inv-loop μ-loop
 add-c c =
@@ -49,22 +37,13 @@ add-c c =
     let d = c .before .owner-at .result in
     omega (arith, l .inv .1 .count (sym (l .inv .1 .told)) d (omega arith), recordsOf-length d (entries (l .i) t), rows-length (l .i) width t)
 
-array-write-c : tie.Need-array-write-c Inv-loop μ-loop
-array-write-c c = search needs
-
-add-i : tie.Need-add-i Inv-loop μ-loop
-add-i c = search needs
-
-loop-less : tie.Need-loop-less Inv-loop μ-loop
-loop-less c = search needs
-
 loop-again : tie.Need-loop-again Inv-loop μ-loop
 loop-again c =
     let l = c .before .before .before .loop in
     let t = c .before .before .before .before .before .args .t .now in (
       omega arith,
       rw (add-one (l .i), rows-snoc)
-      (tallied-step (entryAt (l .i) t) (c .before .owner-at .result) _ (l .inv .1) (c .before .owner-at .ensures) (omega arith) (omega arith) (omega arith)),
+          (tallied-step (entryAt (l .i) t) (c .before .owner-at .result) _ (l .inv .1) (c .before .owner-at .ensures) (omega arith) (omega arith) (omega arith)),
       simp length-set (l .inv .2),
     )
 
@@ -80,14 +59,14 @@ census-spec =
     Inv-loop
     μ-loop
     loop-holds
-    owner-at-requires
-    cast-d
+    (λ c κs. search needs)
+    (λ c. search needs)
     returns
-    mul-c
-    array-read-c
+    (λ c. search needs)
+    (λ c. search needs)
     add-c
-    array-write-c
-    add-i
-    loop-less
+    (λ c. search needs)
+    (λ c. search needs)
+    (λ c. search needs)
     loop-again
     returns-2)

@@ -4,17 +4,11 @@ use borrow.Author.Needs.{needs}
 use Rattle.store.proofs.sound.apart.Statement.{statement}
 use Rattle.store.proofs.sound.apart.Tie as tie
 
-add-if1 : tie.Need-add-if1
-add-if1 c = search needs
-
 returns : tie.Need-returns
 returns c = simp (le-leb _ _ (c .if1 .taken))
-
-add-result : tie.Need-add-result
-add-result c = search needs
 
 returns-2 : tie.Need-returns-2
 returns-2 c = simp (lt-leb _ _ (c .if1 .left))
 
 pub apart-spec : {M : Type 1} → statement M
-apart-spec = tie.close (tie.spec add-if1 returns add-result returns-2)
+apart-spec = tie.close (tie.spec (λ c. search needs) returns (λ c. search needs) returns-2)

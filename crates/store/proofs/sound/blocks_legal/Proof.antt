@@ -7,16 +7,10 @@ use borrow.Author.Needs.{needs}
 use Rattle.store.proofs.sound.blocks_legal.Statement.{statement}
 use Rattle.store.proofs.sound.blocks_legal.Tie as tie
 
-block-legal-requires : tie.Need-block-legal-requires
-block-legal-requires c κs = search needs
-
 returns : tie.Need-returns
 unfolding blocksLegal
 returns c =
     rw (field-part (c .before .before .before .args .row .now) 0 (lit< tt), failed (c .before .block-legal .ensures) (c .if1 .taken))
-
-block-legal-requires-2 : tie.Need-block-legal-requires-2
-block-legal-requires-2 c κs = search needs
 
 returns-2 : tie.Need-returns-2
 unfolding blocksLegal
@@ -27,4 +21,4 @@ returns-2 c =
 
 pub blocks-legal-spec : {M : Type 1} → statement M
 blocks-legal-spec =
-    tie.close (tie.spec block-legal-requires returns block-legal-requires-2 returns-2)
+    tie.close (tie.spec (λ c κs. search needs) returns (λ c κs. search needs) returns-2)

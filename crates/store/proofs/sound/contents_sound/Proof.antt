@@ -1,11 +1,10 @@
 -- `store::sound::contents_sound` meets its contract: after d turns the first d rows are tested. Assumes nothing.
-use Prim.Native.Nat.{ℕ, _-_, _≤_}
-use mathlib.Core.Path.{_≡_, sym, ap, _∙_}
+use Prim.Native.Nat.{_-_, _≤_}
+use mathlib.Core.Path.{_≡_, sym, _∙_}
 use mathlib.Core.Bool.{true}
-use mathlib.Core.List.{[]}
 use native.Mathlib.Omega.{arith}
 use lib.Dec.{lit<}
-use lib.ListN.{getD, length-take, length-drop}
+use lib.ListN.{length-take, length-drop}
 use Rattle.octets.specs.Tests.{every}
 use Rattle.octets.proofs.Tests.{passed, failed}
 use Rattle.octets.proofs.Every.{every-none, every-more, every-false, every-end}
@@ -13,7 +12,7 @@ use Rattle.table.specs.Entries.{desks, ownersBelow, sharesKept, Counted}
 use Rattle.table.proofs.Tallies.{counted-shares}
 use Rattle.store.specs.Layout.{areas}
 use Rattle.store.specs.View.{rowsIn, entriesIn}
-use Rattle.store.specs.Sound.{tableSound, deskSound, rowSound, contents}
+use Rattle.store.specs.Sound.{tableSound, deskSound, contents}
 use Rattle.store.proofs.Places.{fine-facts}
 use Rattle.store.proofs.LentAreas.{entries-lent}
 use borrow.Author.Needs.{needs}
@@ -25,21 +24,6 @@ Inv-loop s at n counts d₀ d = (d ≤ desks) × (every d (deskSound (rowsIn (ar
 
 abbrev μ-loop : tie.MeasureT-loop
 μ-loop s at n counts d₀ d = desks - d
-
-start-requires : tie.Need-start-requires Inv-loop μ-loop
-start-requires c κs = search needs
-
-used-requires : tie.Need-used-requires Inv-loop μ-loop
-used-requires c κs = search needs
-
-add-census : tie.Need-add-census Inv-loop μ-loop
-add-census c = search needs
-
-sub-census : tie.Need-sub-census Inv-loop μ-loop
-sub-census c = search needs
-
-part-census-start : tie.Need-part-census-start Inv-loop μ-loop
-part-census-start c = search needs
 
 part-census-end : tie.Need-part-census-end Inv-loop μ-loop
 part-census-end c = omega (arith, fine-facts _ (c .before .before .before .pre .1) .within 2 (lit< tt))
@@ -71,24 +55,12 @@ returns : tie.Need-returns Inv-loop μ-loop
 unfolding contents tableSound
 returns c = rw (failed (counted (c .before .before) .told) (c .if1 .taken))
 
-shares-ok-requires : tie.Need-shares-ok-requires Inv-loop μ-loop
-shares-ok-requires c κs = search needs
-
 returns-2 : tie.Need-returns-2 Inv-loop μ-loop
 unfolding contents tableSound
 returns-2 c = rw (owners (c .before .before .before), failed (told (c .before)) (c .if2 .taken))
 
 loop-holds : tie.Need-loop-holds Inv-loop μ-loop
 loop-holds c = (omega arith, every-none _)
-
-mul-desk-sound : tie.Need-mul-desk-sound Inv-loop μ-loop
-mul-desk-sound c = search needs
-
-array-read-desk-sound : tie.Need-array-read-desk-sound Inv-loop μ-loop
-array-read-desk-sound c = search needs
-
-desk-sound-requires : tie.Need-desk-sound-requires Inv-loop μ-loop
-desk-sound-requires c κs = search needs
 
 -- what was told of desk d
 desk : (c : tie.After-desk-sound Inv-loop μ-loop)
@@ -104,12 +76,6 @@ unfolding contents
 returns-3 c =
     let l = c .before .before .before in
     rw (sound-table (l .before)) (sym (every-false desks _ (l .loop .d) (omega arith) (failed (desk (c .before)) (c .if3 .taken))))
-
-add-d : tie.Need-add-d Inv-loop μ-loop
-add-d c = search needs
-
-loop-less : tie.Need-loop-less Inv-loop μ-loop
-loop-less c = search needs
 
 loop-again : tie.Need-loop-again Inv-loop μ-loop
 loop-again c =
@@ -128,22 +94,22 @@ contents-sound-spec =
     (tie.spec
     Inv-loop
     μ-loop
-    start-requires
-    used-requires
-    add-census
-    sub-census
-    part-census-start
+    (λ c κs. search needs)
+    (λ c κs. search needs)
+    (λ c. search needs)
+    (λ c. search needs)
+    (λ c. search needs)
     part-census-end
     census-requires
     returns
-    shares-ok-requires
+    (λ c κs. search needs)
     returns-2
     loop-holds
-    mul-desk-sound
-    array-read-desk-sound
-    desk-sound-requires
+    (λ c. search needs)
+    (λ c. search needs)
+    (λ c κs. search needs)
     returns-3
-    add-d
-    loop-less
+    (λ c. search needs)
+    (λ c. search needs)
     loop-again
     returns-4)

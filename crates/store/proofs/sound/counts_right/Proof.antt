@@ -8,15 +8,9 @@ use borrow.Author.Needs.{needs}
 use Rattle.store.proofs.sound.counts_right.Statement.{statement}
 use Rattle.store.proofs.sound.counts_right.Tie as tie
 
-shared-slice-read-if1 : tie.Need-shared-slice-read-if1
-shared-slice-read-if1 c = search needs
-
 returns : tie.Need-returns
 unfolding countsRight
 returns c = rw (field-octet (c .before .before .args .row .now) 3 (lit< tt) refl, lt-leb _ _ (c .if1 .taken))
-
-shared-slice-read-if2 : tie.Need-shared-slice-read-if2
-shared-slice-read-if2 c = search needs
 
 returns-2 : tie.Need-returns-2
 unfolding countsRight
@@ -24,9 +18,6 @@ returns-2 c =
     let b = c .before .before in
     let row = b .before .before .args .row .now in
     rw (field-octet row 3 (lit< tt) refl, field-octet row 5 (lit< tt) refl, le-leb _ _ (b .if1 .left), lt-leb _ _ (c .if2 .taken))
-
-shared-slice-read-if3 : tie.Need-shared-slice-read-if3
-shared-slice-read-if3 c = search needs
 
 returns-3 : tie.Need-returns-3
 unfolding countsRight
@@ -42,9 +33,6 @@ returns-3 c =
       le-leb _ _ (e .if2 .left),
       le-ltb _ _ (c .if3 .taken),
     )
-
-shared-slice-read-result : tie.Need-shared-slice-read-result
-shared-slice-read-result c = search needs
 
 returns-4 : tie.Need-returns-4
 unfolding countsRight
@@ -67,11 +55,11 @@ pub counts-right-spec : {M : Type 1} → statement M
 counts-right-spec =
     tie.close
     (tie.spec
-    shared-slice-read-if1
+    (λ c. search needs)
     returns
-    shared-slice-read-if2
+    (λ c. search needs)
     returns-2
-    shared-slice-read-if3
+    (λ c. search needs)
     returns-3
-    shared-slice-read-result
+    (λ c. search needs)
     returns-4)

@@ -7,23 +7,8 @@ use borrow.Author.Needs.{needs}
 use Rattle.store.proofs.sound.desk_sound.Statement.{statement}
 use Rattle.store.proofs.sound.desk_sound.Tie as tie
 
-row-at-requires : tie.Need-row-at-requires
-row-at-requires c κs = search needs
-
-add-row-sound : tie.Need-add-row-sound
-add-row-sound c = search needs
-
-sub-row-sound : tie.Need-sub-row-sound
-sub-row-sound c = search needs
-
-part-row-sound-start : tie.Need-part-row-sound-start
-part-row-sound-start c = search needs
-
 part-row-sound-end : tie.Need-part-row-sound-end
 part-row-sound-end c = omega (arith, fine-facts _ (c .before .before .pre .2) .within 1 (lit< tt))
-
-row-sound-requires : tie.Need-row-sound-requires
-row-sound-requires c κs = search needs
 
 returns : tie.Need-returns
 returns c =
@@ -35,10 +20,10 @@ pub desk-sound-spec : {M : Type 1} → statement M
 desk-sound-spec =
     tie.close
     (tie.spec
-    row-at-requires
-    add-row-sound
-    sub-row-sound
-    part-row-sound-start
+    (λ c κs. search needs)
+    (λ c. search needs)
+    (λ c. search needs)
+    (λ c. search needs)
     part-row-sound-end
-    row-sound-requires
+    (λ c κs. search needs)
     returns)

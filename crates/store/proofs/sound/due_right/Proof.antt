@@ -8,15 +8,12 @@ use borrow.Author.Needs.{needs}
 use Rattle.store.proofs.sound.due_right.Statement.{statement}
 use Rattle.store.proofs.sound.due_right.Tie as tie
 
-shared-slice-read-result : tie.Need-shared-slice-read-result
-shared-slice-read-result c = search needs
-
 cast-result : tie.Need-cast-result
 cast-result c = omega (arith, c .shared-slice-known .given 456)
 
 returns : tie.Need-returns
 unfolding dueRight
-returns c = rw (field-octet (c .before .args .row .now) 6 (lit< tt) refl)
+returns c = rw (field-octet (c .before .args .row .now) 6 (lit< tt) refl) refl
 
 pub due-right-spec : {M : Type 1} → statement M
-due-right-spec = tie.close (tie.spec shared-slice-read-result cast-result returns)
+due-right-spec = tie.close (tie.spec (λ c. search needs) cast-result returns)

@@ -11,23 +11,8 @@ use borrow.Author.Needs.{needs}
 use Rattle.store.proofs.sound.locks_right.Statement.{statement}
 use Rattle.store.proofs.sound.locks_right.Tie as tie
 
-sub-legal : tie.Need-sub-legal
-sub-legal c = search needs
-
-part-legal-start : tie.Need-part-legal-start
-part-legal-start c = search needs
-
-part-legal-end : tie.Need-part-legal-end
-part-legal-end c = search needs
-
-shared-slice-read-legal : tie.Need-shared-slice-read-legal
-shared-slice-read-legal c = search needs
-
 cast-legal : tie.Need-cast-legal
 cast-legal c = omega (arith, c .shared-slice-known2 .given 458)
-
-get16-requires : tie.Need-get16-requires
-get16-requires c κs = search needs
 
 legal-requires : tie.Need-legal-requires
 legal-requires c κs =
@@ -45,11 +30,11 @@ pub locks-right-spec : {M : Type 1} → statement M
 locks-right-spec =
     tie.close
     (tie.spec
-    sub-legal
-    part-legal-start
-    part-legal-end
-    shared-slice-read-legal
+    (λ c. search needs)
+    (λ c. search needs)
+    (λ c. search needs)
+    (λ c. search needs)
     cast-legal
-    get16-requires
+    (λ c κs. search needs)
     legal-requires
     returns)

@@ -8,16 +8,13 @@ use borrow.Author.Needs.{needs}
 use Rattle.store.proofs.sound.mark_right.Statement.{statement}
 use Rattle.store.proofs.sound.mark_right.Tie as tie
 
-shared-slice-read-if1 : tie.Need-shared-slice-read-if1
-shared-slice-read-if1 c = search needs
-
 returns : tie.Need-returns
 unfolding markRight
 returns c = rw (field-octet (c .before .before .args .row .now) 5 (lit< tt) refl, ne-eqb _ _ (c .if1 .taken))
 
 returns-2 : tie.Need-returns-2
 unfolding markRight
-returns-2 c = rw (field-octet (c .before .before .args .row .now) 5 (lit< tt) refl, eq-eqb _ _ (c .if1 .left))
+returns-2 c = rw (field-octet (c .before .before .args .row .now) 5 (lit< tt) refl, eq-eqb _ _ (c .if1 .left)) refl
 
 pub mark-right-spec : {M : Type 1} → statement M
-mark-right-spec = tie.close (tie.spec shared-slice-read-if1 returns returns-2)
+mark-right-spec = tie.close (tie.spec (λ c. search needs) returns returns-2)

@@ -5,24 +5,15 @@ use borrow.Author.Needs.{needs}
 use Rattle.store.proofs.sound.row_sound.Statement.{statement}
 use Rattle.store.proofs.sound.row_sound.Tie as tie
 
-counts-right-requires : tie.Need-counts-right-requires
-counts-right-requires c κs = search needs
-
 returns : tie.Need-returns
 unfolding rowSound
 returns c = rw (failed (c .before .counts-right .ensures) (c .if1 .taken))
-
-timer-right-requires : tie.Need-timer-right-requires
-timer-right-requires c κs = search needs
 
 returns-2 : tie.Need-returns-2
 unfolding rowSound
 returns-2 c =
     let e1 = c .before .before in
     rw (passed (e1 .before .counts-right .ensures) (e1 .if1 .left), failed (c .before .timer-right .ensures) (c .if2 .taken))
-
-blocks-legal-requires : tie.Need-blocks-legal-requires
-blocks-legal-requires c κs = search needs
 
 returns-3 : tie.Need-returns-3
 unfolding rowSound
@@ -31,9 +22,6 @@ returns-3 c =
     let e1 = e2 .before .before in
     rw (passed (e1 .before .counts-right .ensures) (e1 .if1 .left), passed (e2 .before .timer-right .ensures) (e2 .if2 .left), failed (c .before .blocks-legal .ensures) (c .if3 .taken))
 
-mark-right-requires : tie.Need-mark-right-requires
-mark-right-requires c κs = search needs
-
 returns-4 : tie.Need-returns-4
 unfolding rowSound
 returns-4 c =
@@ -41,9 +29,6 @@ returns-4 c =
     let e2 = e3 .before .before in
     let e1 = e2 .before .before in
     rw (passed (e1 .before .counts-right .ensures) (e1 .if1 .left), passed (e2 .before .timer-right .ensures) (e2 .if2 .left), passed (e3 .before .blocks-legal .ensures) (e3 .if3 .left), failed (c .before .mark-right .ensures) (c .if4 .taken))
-
-due-right-requires : tie.Need-due-right-requires
-due-right-requires c κs = search needs
 
 returns-5 : tie.Need-returns-5
 unfolding rowSound
@@ -73,15 +58,15 @@ pub row-sound-spec : {M : Type 1} → statement M
 row-sound-spec =
     tie.close
     (tie.spec
-    counts-right-requires
+    (λ c κs. search needs)
     returns
-    timer-right-requires
+    (λ c κs. search needs)
     returns-2
-    blocks-legal-requires
+    (λ c κs. search needs)
     returns-3
-    mark-right-requires
+    (λ c κs. search needs)
     returns-4
-    due-right-requires
+    (λ c κs. search needs)
     returns-5
     locks-right-requires
     returns-6)

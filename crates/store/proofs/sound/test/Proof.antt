@@ -10,9 +10,6 @@ returns : tie.Need-returns
 unfolding sound
 returns c = rw (ne-eqb _ _ (c .if1 .taken))
 
-header-fine-requires : tie.Need-header-fine-requires
-header-fine-requires c κs = search needs
-
 returns-2 : tie.Need-returns-2
 unfolding sound
 returns-2 c = rw (eq-eqb _ _ (c .before .before .if1 .left), failed (c .before .header-fine .ensures) (c .if2 .taken))
@@ -28,4 +25,4 @@ returns-3 c =
 
 pub test-spec : {M : Type 1} → statement M
 test-spec =
-    tie.close (tie.spec returns header-fine-requires returns-2 contents-sound-requires returns-3)
+    tie.close (tie.spec returns (λ c κs. search needs) returns-2 contents-sound-requires returns-3)

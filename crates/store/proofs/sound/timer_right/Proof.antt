@@ -5,14 +5,8 @@ use borrow.Author.Needs.{needs}
 use Rattle.store.proofs.sound.timer_right.Statement.{statement}
 use Rattle.store.proofs.sound.timer_right.Tie as tie
 
-read-requires : tie.Need-read-requires
-read-requires c κs = search needs
-
-legal-requires : tie.Need-legal-requires
-legal-requires c κs = search needs
-
 returns : tie.Need-returns
 returns c = rw (field-part (c .before .before .before .args .row .now) 4 (lit< tt), ← c .before .read .ensures) (c .legal .ensures)
 
 pub timer-right-spec : {M : Type 1} → statement M
-timer-right-spec = tie.close (tie.spec read-requires legal-requires returns)
+timer-right-spec = tie.close (tie.spec (λ c κs. search needs) (λ c κs. search needs) returns)
