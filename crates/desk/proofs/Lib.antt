@@ -1,4 +1,5 @@
 pub mod Unknowns
 pub mod Doing
+pub mod Flagged
 pub mod Lent
 pub mod Meaning

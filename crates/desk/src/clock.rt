@@ -51,7 +51,7 @@ pub fn send_timer(s: &[u8], d: usize, kind: Kind, body: &[u8], out: &mut [u8]) -
     requires { ⌜ (sound (now s) ≡ true) × (d < 8) × (842 ≤ length (now out)) ⌝ }
     ensures { λ r. ⌜ Obeyed d kind (ruled Command.SendTimer kind (kept d (now (s .entry))) (now (body .entry))) r (now (s .entry)) (now (s .entry)) (now (out .entry)) (now (out .exit)) ⌝ }
 {
-    let at = store::row_at(s, d) + 451;
+    let at = store::row_at(s, d) + store::TIMER;
     octets::copy_to(out, data_at(kind), &s[at..at + 4]);
     Reply { status: 0, len: 4 }
 }
@@ -62,7 +62,7 @@ pub fn login(s: &mut [u8], d: usize, body: &[u8]) -> Reply
     ensures { λ r. ⌜ Quiet Command.Login d (now (body .entry)) r (now (s .entry)) (now (s .exit)) ⌝ }
 {
     let at = store::row_at(s, d);
-    let equal = octets::same(s, at + 224, body);
+    let equal = octets::same(s, at + store::EEPROM, body);
     row::set_login(&mut s[at..at + store::ROW], equal);
     if equal {
         return plain(0);

@@ -72,7 +72,7 @@ fn tell_block(s: &[u8], d: usize, loc: bool, k: usize, out: &mut [u8], at: usize
     ensures { λ _. ⌜ now (out .exit) ≡ put at (blockAt k (memoryOf loc (kept d (now (s .entry))))) (now (out .entry)) ⌝ }
 {
     let ram = store::row_at(s, d);
-    let eeprom = ram + 224;
+    let eeprom = ram + store::EEPROM;
     let end = eeprom + 224;
     octets::copy_to(out, at, block(&s[ram..eeprom], &s[eeprom..end], loc, k));
 }

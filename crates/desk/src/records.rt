@@ -25,7 +25,7 @@ pub fn held(s: &[u8], d: usize) -> usize
 {
     let at = store::start(s, 2);
     let n = store::used(s);
-    table::held(&s[at..at + 7168], n, d as u8)
+    table::held(&s[at..at + store::TABLE], n, d as u8)
 }
 
 // Removes the first k records of desk d.
@@ -35,7 +35,7 @@ fn remove_first(s: &mut [u8], d: usize, k: usize)
 {
     let at = store::start(s, 2);
     let n = store::used(s);
-    let left = table::remove(&mut s[at..at + 7168], n, d as u8, k);
+    let left = table::remove(&mut s[at..at + store::TABLE], n, d as u8, k);
     octets::put16(s, 4, left as u16);
 }
 
@@ -74,7 +74,13 @@ fn tell_records(s: &[u8], d: usize, n: usize, out: &mut [u8], at: usize)
     let from = store::start(s, 2);
     let used = store::used(s);
     let to = at + 2;
-    table::gather(&s[from..from + 7168], used, d as u8, n, &mut out[to..]);
+    table::gather(
+        &s[from..from + store::TABLE],
+        used,
+        d as u8,
+        n,
+        &mut out[to..],
+    );
 }
 
 // 0x22: the oldest records, as many as are asked for, held and fit.
@@ -94,7 +100,7 @@ pub fn read_records(s: &mut [u8], d: usize, kind: Kind, body: &[u8], out: &mut [
     let n = least(wanted, most_sent(kind));
     tell_records(s, d, n, out, data_at(kind));
     let at = store::row_at(s, d);
-    let status = status_of(s[at + 455], n, wanted);
+    let status = status_of(s[at + store::MARK], n, wanted);
     row::set_due(&mut s[at..at + store::ROW], n as u8);
     Reply {
         status,
@@ -108,7 +114,7 @@ pub fn send_table(s: &[u8], d: usize, kind: Kind, body: &[u8], out: &mut [u8]) -
     ensures { λ r. ⌜ Obeyed d kind (ruled Command.SendTable kind (kept d (now (s .entry))) (now (body .entry))) r (now (s .entry)) (now (s .entry)) (now (out .entry)) (now (out .exit)) ⌝ }
 {
     let to = data_at(kind);
-    let start = s[store::row_at(s, d) + 457];
+    let start = s[store::row_at(s, d) + store::TAB_START];
     octets::put16(out, to, table::SHARE);
     octets::put16(out, to + 2, start as u16);
     octets::put16(out, to + 4, held(s, d) as u16);
@@ -121,8 +127,8 @@ pub fn remove(s: &mut [u8], d: usize, body: &[u8]) -> Reply
     ensures { λ r. ⌜ Quiet Command.RemoveRecords d (now (body .entry)) r (now (s .entry)) (now (s .exit)) ⌝ }
 {
     let at = store::row_at(s, d);
-    let due = s[at + 456];
-    let start = (s[at + 457] as u16 + due as u16) % 64;
+    let due = s[at + store::DUE];
+    let start = (s[at + store::TAB_START] as u16 + due as u16) % 64;
     row::close_table(&mut s[at..at + store::ROW], start as u8);
     remove_first(s, d, due as usize);
     plain(0)

@@ -1,4 +1,13 @@
 // What is done to the row of one desk: each function promises its octets by a definition of specs/Row.
+use store::DUE;
+use store::EEPROM;
+use store::LOCKED;
+use store::LOCKS;
+use store::LOGIN;
+use store::MARK;
+use store::TAB_START;
+use store::TIMER;
+use store::VALID;
 ghost use mathlib.Core.Path.{_≡_};
 ghost use mathlib.Core.Bool.{cond};
 ghost use Prim.Native.Nat.{_≤_, _<_};
@@ -7,26 +16,8 @@ ghost use Rattle.store.specs.Layout.{rowWidth};
 ghost use Rattle.desk.specs.Row.{restartedRow, midnightRow, unlockedRow, closedRow, markedRow, dueRow, loginRow, timerRow, memoryAt, writtenRow, savedRow, allSavedRow, lockedRow, sweptRow, steppedRow, tickedRow, defaultRow, clearedRow, systemRow};
 ghost use Rattle.rules.specs.Config.{blockAt, defaults};
 
-// Where the fields lie, and the octets of a memory and of a block.
+// RAM is the first field; the octets of a memory and of a block.
 const RAM: usize = 0;
-
-const EEPROM: usize = 224;
-
-const VALID: usize = 448;
-
-const LOGIN: usize = 450;
-
-const TIMER: usize = 451;
-
-const MARK: usize = 455;
-
-const DUE: usize = 456;
-
-const START: usize = 457;
-
-const COUNT: usize = 458;
-
-const LOCKS: usize = 459;
 
 const MEMORY: usize = 224;
 
@@ -37,7 +28,7 @@ pub fn clear_locks(row: &mut [u8])
     requires { ⌜ length (now row) ≡ rowWidth ⌝ }
     ensures { λ _. ⌜ now (row .exit) ≡ unlockedRow (now (row .entry)) ⌝ }
 {
-    row[COUNT] = 0;
+    row[LOCKED] = 0;
 }
 
 // The timer is four octets.
@@ -64,7 +55,7 @@ pub fn close_table(row: &mut [u8], start: u8)
 {
     row[MARK] = 0;
     row[DUE] = 0;
-    row[START] = start;
+    row[TAB_START] = start;
 }
 
 // The overflow mark is set.
@@ -145,10 +136,10 @@ pub fn add_lock(row: &mut [u8], uid: u64)
     requires { ⌜ (length (now row) ≡ rowWidth) × (getD (now row) 458 0 ≤ 64) ⌝ }
     ensures { λ _. ⌜ now (row .exit) ≡ lockedRow uid (now (row .entry)) ⌝ }
 {
-    let n = row[COUNT] as usize;
+    let n = row[LOCKED] as usize;
     let valid = octets::get16(row, VALID);
     let k = locks::add(&mut row[LOCKS..store::ROW], n, uid, valid);
-    row[COUNT] = k as u8;
+    row[LOCKED] = k as u8;
 }
 
 // Each lock loses a tick, and goes at zero.
@@ -156,9 +147,9 @@ fn tick_locks(row: &mut [u8])
     requires { ⌜ (length (now row) ≡ rowWidth) × (getD (now row) 458 0 ≤ 64) ⌝ }
     ensures { λ _. ⌜ now (row .exit) ≡ sweptRow (now (row .entry)) ⌝ }
 {
-    let n = row[COUNT] as usize;
+    let n = row[LOCKED] as usize;
     let k = locks::tick(&mut row[LOCKS..store::ROW], n);
-    row[COUNT] = k as u8;
+    row[LOCKED] = k as u8;
 }
 
 // The timer is advanced.

@@ -28,7 +28,7 @@ fn barred(s: &[u8], d: usize, login: bool) -> bool
         return false;
     }
     let at = store::row_at(s, d);
-    s[at + 450] != 1
+    s[at + store::LOGIN] != 1
 }
 
 // A command whose data have the listed length, at a desk that may do it.

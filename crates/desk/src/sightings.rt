@@ -47,8 +47,8 @@ fn is_locked(s: &[u8], d: usize, uid: u64) -> bool
     ensures { λ r. ⌜ r ≡ locked uid (kept d (now (s .entry)) .locks) ⌝ }
 {
     let at = store::row_at(s, d);
-    let n = s[at + 458] as usize;
-    match locks::lookup_in(&s[at + 459..at + 1099], n, uid) {
+    let n = s[at + store::LOCKED] as usize;
+    match locks::lookup_in(&s[at + store::LOCKS..at + store::ROW], n, uid) {
         Found::At(_, _) => true,
         Found::Nothing => false,
     }
@@ -61,7 +61,7 @@ fn put_record(s: &mut [u8], d: usize, r: [u8; 13])
 {
     let at = store::start(s, 2);
     let n = store::used(s);
-    table::append(&mut s[at..at + 7168], n, d as u8, r);
+    table::append(&mut s[at..at + store::TABLE], n, d as u8, r);
     octets::put16(s, 4, (n + 1) as u16);
 }
 
@@ -78,7 +78,7 @@ pub fn sight(s: &mut [u8], d: usize, uid: u64, mask: u8) -> Seen
         row::set_mark(&mut s[at..at + store::ROW]);
         return Seen::Lost;
     }
-    let t = timer::read(s, at + 451);
+    let t = timer::read(s, at + store::TIMER);
     put_record(s, d, record_of(uid, t, mask));
     row::add_lock(&mut s[at..at + store::ROW], uid);
     Seen::Recorded
