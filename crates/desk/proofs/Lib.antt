@@ -1,5 +1,6 @@
 pub mod Unknowns
 pub mod Doing
 pub mod Flagged
+pub mod Serves
 pub mod Lent
 pub mod Meaning

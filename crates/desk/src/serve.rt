@@ -62,7 +62,7 @@ fn dispatch(
 }
 
 fn obey_row(s: &mut [u8], d: usize, kind: Kind, row: Row, body: &[u8], out: &mut [u8]) -> Reply
-    requires { ⌜ (sound (now s) ≡ true) × (d < 8) × (known (row .control) ≡ Known.Listed row) × (842 ≤ length (now out)) ⌝ }
+    requires { ⌜ (sound (now s) ≡ true) × (d < 8) × (dataSize (row .command) ≡ row .size) × (842 ≤ length (now out)) ⌝ }
     ensures { λ r. ⌜ Obeyed d kind (obey (Known.Listed row) kind (kept d (now (s .entry))) (now (body .entry))) r (now (s .entry)) (now (s .exit)) (now (out .entry)) (now (out .exit)) ⌝ }
 {
     if body.len() != row.size {

@@ -1,51 +1,54 @@
+-- `desk::serve::obey_row` meets its contract: one test after the other, then the command. Assumes nothing.
+use mathlib.Core.Path.{sym, _∙_}
+use native.Mathlib.Omega.{arith}
+use Rattle.desk.specs.Obeyed.{kept}
+use Rattle.desk.proofs.Serves.{plain-obeyed, obey-length, obey-barred, obey-ruled}
 use borrow.Author.Needs.{needs}
 use Rattle.desk.proofs.serve.obey_row.Statement.{statement}
 use Rattle.desk.proofs.serve.obey_row.Tie as tie
-use Rattle.desk.proofs.serve.obey_row.Reads as reads
-use Rattle.desk.proofs.serve.obey_row.Lts as lts
-use Rattle.desk.proofs.plain.Reads as plain-reads
-use Rattle.desk.proofs.serve.barred.Reads as barred-reads
-use Rattle.desk.proofs.serve.dispatch.Reads as dispatch-reads
 
--- src/serve.rt:69:9
 plain-requires : tie.Need-plain-requires
 plain-requires c κs = search needs
 
--- src/serve.rt:69:9
 returns : tie.Need-returns
-returns c = ?
+returns c = 
+    let z = c .before .before .before .before .before .before in
+    let a = z .args in
+    plain-obeyed (a .d) (a .kind) 0x81 _ _ (a .s .now) (a .out .now) (z .pre .0) (z .pre .1) (c .plain .ensures)
+    (obey-length (a .row) (a .kind) _ (a .body .now) (c .before .if1 .taken))
 
--- src/serve.rt:71:8
 barred-requires : tie.Need-barred-requires
 barred-requires c κs = search needs
 
--- src/serve.rt:72:9
 plain-requires-2 : tie.Need-plain-requires-2
 plain-requires-2 c κs = search needs
 
--- src/serve.rt:72:9
 same-length : tie.Need-same-length
 same-length c = search needs
 
--- src/serve.rt:72:9
 returns-2 : tie.Need-returns-2
-returns-2 c = ?
+returns-2 c = 
+    let z = c .before .before .before .before .before .before .before .before .before in
+    let a = z .args in
+    let b = c .before .before in
+    plain-obeyed (a .d) (a .kind) 0x13 _ _ (a .s .now) (a .out .now) (z .pre .0) (z .pre .1) (c .plain2 .ensures)
+    (obey-barred (a .row) (a .kind) _ (a .body .now) (omega arith) (sym (b .barred .ensures) ∙ c .before .if2 .taken))
 
--- src/serve.rt:75:5
 dispatch-requires : tie.Need-dispatch-requires
-dispatch-requires c κs = ?
+dispatch-requires c κs = search needs
 
--- src/serve.rt:64:1
 same-length-2 : tie.Need-same-length-2
 same-length-2 c = search needs
 
--- src/serve.rt:64:1
 same-length-3 : tie.Need-same-length-3
 same-length-3 c = search needs
 
--- src/serve.rt:64:1
 returns-3 : tie.Need-returns-3
-returns-3 c = ?
+returns-3 c =
+    let x = c .before .before .before .before in
+    let e = x .before .before .before in
+    let a = e .before .before .before .before .before .before .before .before .args in
+    rw (obey-ruled (a .row) (a .kind) (kept (a .d) (a .s .now)) (a .body .now) (omega arith) (sym (e .before .barred .ensures) ∙ e .if2 .left)) (x .dispatch .ensures)
 
 pub obey-row-spec : {M : Type 1} → statement M
 obey-row-spec =
