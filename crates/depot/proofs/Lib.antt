@@ -1,0 +1,4 @@
+pub mod Refused
+pub mod Replying
+pub mod Calls
+pub mod Once

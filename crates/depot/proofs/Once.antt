@@ -1,0 +1,31 @@
+-- Two outcomes that one promise allows are equal: the answer, the output's octets, and what the store says. Assumes nothing.
+use mathlib.Core.Path.{_≡_, sym, ap, _∙_}
+use mathlib.Core.List.{List}
+use Prim.Native.Nat.{ℕ}
+use Rattle.rules.specs.Box.{Box, Event, Answer as RuleAnswer, refused, reply, seen, ok}
+use Rattle.store.specs.View.{view}
+use Rattle.depot.specs.declared.Answer.{Answer}
+use Rattle.depot.specs.Called.{stepOn, Ended, Called, Made}
+
+pub record Same (a b : Answer) (out out′ s s′ : List ℕ) : Type 0 where
+  pub answers : a ≡ b
+  pub outputs : out ≡ out′
+  pub views : view s ≡ view s′
+
+ended-once : (t : RuleAnswer) (box : Box) (s out : List ℕ) (a b : Answer) (s′ s″ out′ out″ : List ℕ)
+    → Ended t box s out a s′ out′ → Ended t box s out b s″ out″ → Same a b out′ out″ s′ s″
+ended-once (refused r) box s out a b s′ s″ out′ out″ p q =
+    record { answers = p .0 ∙ sym (q .0); outputs = p .1 .1 ∙ sym (q .1 .1); views = ap view (p .1 .0 ∙ sym (q .1 .0)) }
+ended-once (reply t) box s out a b s′ s″ out′ out″ p q =
+    record { answers = p .0 ∙ sym (q .0); outputs = p .1 ∙ sym (q .1); views = p .2 .1 ∙ sym (q .2 .1) }
+ended-once (seen w) box s out a b s′ s″ out′ out″ p q =
+    record { answers = p .0 ∙ sym (q .0); outputs = p .1 ∙ sym (q .1); views = p .2 .1 ∙ sym (q .2 .1) }
+ended-once ok box s out a b s′ s″ out′ out″ p q =
+    record { answers = p .0 ∙ sym (q .0); outputs = p .1 ∙ sym (q .1); views = p .2 .1 ∙ sym (q .2 .1) }
+
+pub once : (e : Event) (s out : List ℕ) (a b : Answer) (s′ s″ out′ out″ : List ℕ) → Called e s out a s′ out′ → Called e s out b s″ out″ → Same a b out′ out″ s′ s″
+once e s out a b s′ s″ out′ out″ p q = ended-once (stepOn s e .answer) (stepOn s e .box) s out a b s′ s″ out′ out″ (p .ended) (q .ended)
+
+-- a fresh store is one list of octets
+pub made-once : (s : List ℕ) (a b : Answer) (s′ s″ : List ℕ) → Made s a s′ → Made s b s″ → (a ≡ b) × (s′ ≡ s″)
+made-once s a b s′ s″ p q = (p .answer-is ∙ sym (q .answer-is), p .store-is ∙ sym (q .store-is))

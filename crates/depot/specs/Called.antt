@@ -1,0 +1,45 @@
+-- What each call owes its reader: its answer, and what every lent octet then holds. Assumes nothing.
+use Prim.Native.Nat.{ℕ}
+use mathlib.Core.Path.{_≡_}
+use mathlib.Core.Bool.{Bool, true, false, cond}
+use mathlib.Core.List.{List}
+use lib.ListN.{length}
+use lib.Dec.{eqb}
+use Rattle.octets.specs.Parts.{put}
+use Rattle.frame.specs.declared.Refusal.{Refusal}
+use Rattle.frame.specs.declared.Refusal.the-variants.{Unsound}
+use Rattle.rules.specs.Box.{Box, Event, Answer as RuleAnswer, refused, reply, seen, ok, Step, step}
+use Rattle.store.specs.Layout.{storeSize}
+use Rattle.store.specs.View.{view}
+use Rattle.store.specs.Sound.{sound}
+use Rattle.store.specs.Fresh.{freshStore}
+use Rattle.depot.specs.declared.Answer.{Answer}
+use Rattle.depot.specs.declared.Answer.the-variants.{Refused, Reply, Sighted, Done}
+
+-- a store that is not sound is refused, whatever the event
+unfoldable pub stepOn : List ℕ → Event → Step
+stepOn s e = cond (sound s) (step (view s) e) record { answer = refused Unsound; box = view s }
+
+-- a refused call leaves store and output octet for octet
+abbrev pub Kept : List ℕ → List ℕ → List ℕ → List ℕ → Type 0
+Kept s out s′ out′ = (s′ ≡ s) × (out′ ≡ out)
+
+-- a call that is not refused leaves a sound store that says the next box
+abbrev pub Next : Box → List ℕ → Type 0
+Next box s′ = (sound s′ ≡ true) × (view s′ ≡ box)
+
+-- the rules' answer, as the call gives it: a reply stands at the start of the output, and the octets after it stay
+abbrev pub Ended : RuleAnswer → Box → List ℕ → List ℕ → Answer → List ℕ → List ℕ → Type 0
+Ended (refused r) box s out a s′ out′ = (a ≡ Refused r) × Kept s out s′ out′
+Ended (reply t) box s out a s′ out′ = (a ≡ Reply (length t)) × (out′ ≡ put 0 t out) × Next box s′
+Ended (seen w) box s out a s′ out′ = (a ≡ Sighted w) × (out′ ≡ out) × Next box s′
+Ended ok box s out a s′ out′ = (a ≡ Done) × (out′ ≡ out) × Next box s′
+
+-- one relation for all events: store and output before, the answer, store and output after
+pub record Called (e : Event) (s out : List ℕ) (a : Answer) (s′ out′ : List ℕ) : Type 0 where
+  pub ended : Ended (stepOn s e .answer) (stepOn s e .box) s out a s′ out′
+
+-- a fresh store, octet for octet; a buffer of another size is refused and kept
+pub record Made (s : List ℕ) (a : Answer) (s′ : List ℕ) : Type 0 where
+  pub answer-is : a ≡ cond (eqb (length s) storeSize) Done (Refused Unsound)
+  pub store-is : s′ ≡ cond (eqb (length s) storeSize) freshStore s
