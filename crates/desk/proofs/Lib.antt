@@ -3,3 +3,8 @@ pub mod Doing
 pub mod Flagged
 pub mod Lent
 pub mod Meaning
+pub mod LentRow
+pub mod Saying
+pub mod Ticks
+pub mod NewRecord
+pub mod Sights
