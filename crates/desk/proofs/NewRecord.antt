@@ -1,7 +1,7 @@
 -- A new record of a desk: there is room, and the store says the desk with it behind the others. Assumes nothing.
 use Prim.Native.Nat.{ℕ, _+_, _-_, _*_, _≤_, _<_}
-use mathlib.Core.Path.{_≡_, refl, sym, ap, _∙_}
-use mathlib.Core.Bool.{true, _&&_}
+use mathlib.Core.Path.{_≡_, sym, ap, _∙_}
+use mathlib.Core.Bool.{true}
 use mathlib.Core.List.{List, [], _∷_, _++_}
 use native.Mathlib.Nat.{add-zero}
 use native.Mathlib.Omega.{arith}
@@ -9,7 +9,7 @@ use lib.Dec.{lit<}
 use lib.ListN.{length, take, drop}
 use borrow.Author.Tests.{lt-ltb}
 use Rattle.octets.specs.Parts.{part, put}
-use Rattle.octets.specs.Numbers.{octets, Octets}
+use Rattle.octets.specs.Numbers.{Octets}
 use Rattle.octets.proofs.Tests.{and-left, and-right}
 use Rattle.octets.proofs.Puts.{put-length}
 use Rattle.octets.proofs.Lent.{put-mid}
@@ -18,7 +18,6 @@ use Rattle.table.proofs.Room.{room-entry}
 use Rattle.table.proofs.Changes.{appended, append-owners, append-shares, append-own, append-others}
 use Rattle.rules.specs.Desk.{Desk, withTable}
 use Rattle.rules.specs.Records.{withRecord}
-use Rattle.rules.specs.Box.{deskAt}
 use Rattle.rules.proofs.Facts.{RecordLegal, DeskLegal}
 use Rattle.rules.proofs.Tables.{recorded-legal}
 use Rattle.rules.proofs.Legality.{table-legal}

@@ -1,14 +1,14 @@
 -- A sighting at a desk: what is read of its row, and what the store says where it was ignored, lost or recorded. Assumes nothing.
 use Prim.Native.Nat.{ℕ, _+_, _-_, _^_, _≤_, _<_}
-use mathlib.Core.Path.{_≡_, refl, sym, ap, _∙_}
-use mathlib.Core.Bool.{true, false, cond}
+use mathlib.Core.Path.{_≡_, sym, ap, _∙_}
+use mathlib.Core.Bool.{true, false}
 use mathlib.Core.List.{List, [], _∷_}
 use native.Mathlib.Omega.{arith}
-use lib.Dec.{ltb, lit<, lit≤}
+use lib.Dec.{lit<, lit≤}
 use lib.ListN.{length, take, drop, getD}
 use borrow.Author.Tests.{lt-ltb, le-ltb}
 use Rattle.octets.specs.Parts.{part, put}
-use Rattle.octets.specs.Numbers.{number, u16At, Octets}
+use Rattle.octets.specs.Numbers.{u16At, Octets}
 use Rattle.octets.specs.Areas.{upto}
 use Rattle.octets.proofs.Each.{Octet}
 use Rattle.octets.proofs.Puts.{put-length, part-at, part-part}
@@ -75,6 +75,12 @@ locked-flags uid row l f = locks-flags row l f (added uid (u16At 448 row) (locks
 
 -- ---- the three ways
 
+-- s with a new record of desk d: sound, the row where it was, and the lock that follows ends the sighting
+pub record WithRecord (d uid mask : ℕ) (s s′ : List ℕ) : Type 0 where
+  pub still : sound s′ ≡ true
+  pub place : rowAt d s′ ≡ rowAt d s
+  pub ends : Octets s′ → Sighted d uid mask Recorded s (put (rowAt d s′) (lockedRow uid (rowOf d s′)) s′)
+
 module _ (s : List ℕ) (e : sound s ≡ true) (d : ℕ) (h : d < desks) (uid mask : ℕ) where
   pub ignored : locked uid (kept d s .locks) ≡ true → Sighted d uid mask Ignored s s
   unfolding seenAs afterSeen
@@ -111,33 +117,29 @@ module _ (s : List ℕ) (e : sound s ≡ true) (d : ℕ) (h : d < desks) (uid ma
       new-legal : RecordLegal (recordOf uid (kept d s .timer) mask)
       new-legal = record-legal uid (kept d s .timer) mask (kept-legal s e d h o .timer) octet
 
-      -- first the record
       module _ (s′ : List ℕ) (q : s′ ≡ recordedIn d (recordOf uid (kept d s .timer) mask) s) where
         abbrev withNew : Desk
         withNew = withTable (withRecord (recordOf uid (kept d s .timer) mask) (kept d s .table)) (kept d s)
 
-        first-says : Says d withNew s s′
-        first-says = rw q (recorded-says s e d h few _ new-legal o)
+        new-says : Says d withNew s s′
+        new-says = rw q (recorded-says s e d h few _ new-legal o)
 
-        pub still : sound s′ ≡ true
-        still = first-says .still
-
-        pub place : rowAt d s′ ≡ rowAt d s
-        place = rw q (same-place s e d h few _ new-legal)
-
-        -- then the lock
-        pub recorded : Octets s′ → Sighted d uid mask Recorded s (put (rowAt d s′) (lockedRow uid (rowOf d s′)) s′)
+        locked-says : Octets s′ → Sighted d uid mask Recorded s (put (rowAt d s′) (lockedRow uid (rowOf d s′)) s′)
         unfolding afterSeen withTable
-        recorded o′ =
+        locked-says o′ =
             let row : List ℕ = rowOf d s′ in
-            let l : length row ≡ rowWidth = row-size s′ still d h in
+            let e′ : sound s′ ≡ true = new-says .still in
+            let l : length row ≡ rowWidth = row-size s′ e′ d h in
             record {
               seen-is = seen-recorded;
               says =
-                  says-then d withNew _ s s′ _ first-says
-                  (row-says s′ still d h (lockedRow uid row) (afterSeen Recorded uid mask (kept d s)) (locked-size uid row ∙ l)
-                  (locked-means row l (recordsOf d (inUse s′)) (octets-part (rowAt d s′) rowWidth s′ o′) (few-locks s′ still d h) uid small
-                  ∙ ap (λ (k : Desk). withLocks (added uid (k .valid) (k .locks)) k) (sym (kept-is s′ still d h) ∙ kept-now d withNew s s′ h first-says))
+                  says-then d withNew _ s s′ _ new-says
+                  (row-says s′ e′ d h (lockedRow uid row) (afterSeen Recorded uid mask (kept d s)) (locked-size uid row ∙ l)
+                  (locked-means row l (recordsOf d (inUse s′)) (octets-part (rowAt d s′) rowWidth s′ o′) (few-locks s′ e′ d h) uid small
+                  ∙ ap (λ (k : Desk). withLocks (added uid (k .valid) (k .locks)) k) (sym (kept-is s′ e′ d h) ∙ kept-now d withNew s s′ h new-says))
                   (after-legal Recorded seen-recorded)
-                  (locked-flags uid row l (row-flags s′ still d h)));
+                  (locked-flags uid row l (row-flags s′ e′ d h)));
             }
+
+        pub recorded : WithRecord d uid mask s s′
+        recorded = record { still = new-says .still; place = rw q (same-place s e d h few _ new-legal); ends = locked-says }

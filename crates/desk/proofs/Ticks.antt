@@ -11,18 +11,15 @@ use Rattle.octets.specs.Parts.{put}
 use Rattle.octets.specs.Numbers.{Octets}
 use Rattle.octets.proofs.Numbers.{octets-part}
 use Rattle.octets.proofs.Puts.{put-length}
-use Rattle.octets.proofs.Rows.{rows-length}
 use Rattle.timer.proofs.ReadBack.{timer-length}
-use Rattle.timer.specs.Clock.{stepOf, timerFrom}
 use Rattle.table.specs.Entries.{desks, recordsOf}
-use Rattle.rules.specs.Desk.{Desk, freshDesk}
+use Rattle.rules.specs.Desk.{freshDesk}
 use Rattle.rules.specs.Sighting.{ticked}
-use Rattle.rules.specs.Box.{Box, deskAt}
+use Rattle.rules.specs.Box.{deskAt}
 use Rattle.rules.proofs.Legality.{ticked-legal}
-use Rattle.store.specs.Layout.{rowWidth, areas, rowAt, rowOf}
-use Rattle.store.specs.View.{boxFrom, rowsIn, inUse, viewOf, view}
+use Rattle.store.specs.Layout.{rowWidth, rowAt, rowOf}
+use Rattle.store.specs.View.{inUse, view}
 use Rattle.store.specs.Sound.{sound}
-use Rattle.store.proofs.Boxes.{box-length}
 use Rattle.locks.specs.Locks.{sweptOf}
 use Rattle.desk.specs.Row.{locksOf, tickedRow, steppedRow, timerRow, sweptRow}
 use Rattle.desk.specs.Obeyed.{kept, Says, Ticked}

@@ -36,7 +36,7 @@ returns c =
     let u = c .before .before in
     let z = u .before .before .before in
     let e : c .held .result ≡ length (recordsOf (z .args .d) (inUse (z .args .s .now))) =
-        rw (entries-lent (z .args .s .now) _ _ (u .before .start .ensures .0) (u .used .ensures .0)) at (c .held .ensures)
+    rw (entries-lent (z .args .s .now) _ _ (u .before .start .ensures .0) (u .used .ensures .0)) at (c .held .ensures)
     in
     let es = inUse (z .args .s .now) in
     (e, omega (arith, e, sharesKept-at es (z .args .d) (and-right (ownersBelow desks es) (sharesKept es) (sound-facts (z .args .s .now) (z .pre .0) .table)) (z .pre .1)))

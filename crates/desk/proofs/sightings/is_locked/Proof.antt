@@ -2,7 +2,7 @@
 use mathlib.Core.Path.{_≡_, sym, ap, _∙_}
 use native.Mathlib.Omega.{arith}
 use lib.ListN.{length-take, length-drop}
-use Rattle.locks.specs.Locks.{isFound, lookup, locked}
+use Rattle.locks.specs.Locks.{isFound, locked}
 use Rattle.desk.specs.Obeyed.{kept}
 use Rattle.desk.proofs.LentRow.{store-size, row-within}
 use Rattle.desk.proofs.Sights.{few-there, locks-lent}
