@@ -4,3 +4,8 @@ pub mod Flagged
 pub mod Serves
 pub mod Lent
 pub mod Meaning
+pub mod LentRow
+pub mod Saying
+pub mod Ticks
+pub mod NewRecord
+pub mod Sights

@@ -1,47 +1,45 @@
+-- `desk::records::held` meets its contract. Assumes nothing.
+use mathlib.Core.Path.{_≡_}
+use native.Mathlib.Omega.{arith}
+use lib.Dec.{lit<}
+use lib.ListN.{length, length-take, length-drop}
+use Rattle.octets.proofs.Tests.{and-right}
+use Rattle.table.specs.Entries.{desks, recordsOf, ownersBelow, sharesKept}
+use Rattle.table.proofs.Shares.{sharesKept-at}
+use Rattle.store.specs.View.{inUse}
+use Rattle.store.specs.Sound.{tableSound}
+use Rattle.store.proofs.Changes.{sound-facts}
+use Rattle.store.proofs.LentAreas.{entries-lent}
 use borrow.Author.Needs.{needs}
 use Rattle.desk.proofs.records.held.Statement.{statement}
 use Rattle.desk.proofs.records.held.Tie as tie
-use Rattle.desk.proofs.records.held.Reads as reads
-use Rattle.desk.proofs.records.held.Lts as lts
-use Rattle.store.proofs.start.Reads as start-reads
-use Rattle.store.proofs.used.Reads as used-reads
-use Rattle.table.proofs.held.Reads as held-reads
 
--- src/records.rt:26:9
 start-requires : tie.Need-start-requires
-start-requires c κs = ?
+start-requires c κs = (lit< tt, omega (arith, sound-facts _ (c .before .pre .0) .size))
 
--- src/records.rt:27:9
 used-requires : tie.Need-used-requires
-used-requires c κs = ?
+used-requires c κs = omega (arith, sound-facts _ (c .before .before .pre .0) .size)
 
--- src/records.rt:28:24
-add-held : tie.Need-add-held
-add-held c = search needs
-
--- src/records.rt:28:17
-sub-held : tie.Need-sub-held
-sub-held c = search needs
-
--- src/records.rt:28:17
-part-held-start : tie.Need-part-held-start
-part-held-start c = search needs
-
--- src/records.rt:28:17
 part-held-end : tie.Need-part-held-end
-part-held-end c = ?
+part-held-end c =
+    let f = sound-facts _ (c .before .before .before .pre .0) in
+    omega (arith, f .size, f .head .within 2 (lit< tt))
 
--- src/records.rt:28:39
-cast-held : tie.Need-cast-held
-cast-held c = search needs
-
--- src/records.rt:28:5
 held-requires : tie.Need-held-requires
-held-requires c κs = ?
+held-requires c κs =
+    let f = sound-facts _ (c .before .before .before .before .pre .0) in
+    simp (length-take, length-drop) (omega (arith, f .size, f .head .within 2 (lit< tt), f .head .used))
 
--- src/records.rt:22:1
 returns : tie.Need-returns
-returns c = ?
+unfolding tableSound
+returns c =
+    let u = c .before .before in
+    let z = u .before .before .before in
+    let e : c .held .result ≡ length (recordsOf (z .args .d) (inUse (z .args .s .now))) =
+    rw (entries-lent (z .args .s .now) _ _ (u .before .start .ensures .0) (u .used .ensures .0)) at (c .held .ensures)
+    in
+    let es = inUse (z .args .s .now) in
+    (e, omega (arith, e, sharesKept-at es (z .args .d) (and-right (ownersBelow desks es) (sharesKept es) (sound-facts (z .args .s .now) (z .pre .0) .table)) (z .pre .1)))
 
 pub held-spec : {M : Type 1} → statement M
 held-spec =
@@ -49,10 +47,10 @@ held-spec =
     (tie.spec
     start-requires
     used-requires
-    add-held
-    sub-held
-    part-held-start
+    (λ c. search needs)
+    (λ c. search needs)
+    (λ c. search needs)
     part-held-end
-    cast-held
+    (λ c. search needs)
     held-requires
     returns)

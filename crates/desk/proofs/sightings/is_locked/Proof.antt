@@ -1,82 +1,70 @@
+-- `desk::sightings::is_locked` meets its contract. Assumes nothing.
+use mathlib.Core.Path.{_≡_, sym, ap, _∙_}
+use native.Mathlib.Omega.{arith}
+use lib.ListN.{length-take, length-drop}
+use Rattle.locks.specs.Locks.{isFound, locked}
+use Rattle.desk.specs.Obeyed.{kept}
+use Rattle.desk.proofs.LentRow.{store-size, row-within}
+use Rattle.desk.proofs.Sights.{few-there, locks-lent}
 use borrow.Author.Needs.{needs}
 use Rattle.desk.proofs.sightings.is_locked.Statement.{statement}
 use Rattle.desk.proofs.sightings.is_locked.Tie as tie
-use Rattle.desk.proofs.sightings.is_locked.Reads as reads
-use Rattle.desk.proofs.sightings.is_locked.Lts as lts
-use Rattle.locks.proofs.lookup_in.Reads as lookup-in-reads
-use Rattle.store.proofs.row_at.Reads as row-at-reads
 
--- src/sightings.rt:49:9
 row-at-requires : tie.Need-row-at-requires
-row-at-requires c κs = ?
+row-at-requires c κs = (c .before .pre .1, omega (arith, store-size _ (c .before .pre .0)))
 
--- src/sightings.rt:50:15
-add-n : tie.Need-add-n
-add-n c = search needs
-
--- src/sightings.rt:50:13
 shared-slice-read-n : tie.Need-shared-slice-read-n
-shared-slice-read-n c = ?
+shared-slice-read-n c =
+    let z = c .before .before .before in
+    omega (arith, row-within _ (z .pre .0) (z .args .d) (z .pre .1) _ (c .before .row-at .ensures .0))
 
--- src/sightings.rt:50:13
 cast-n : tie.Need-cast-n
-cast-n c = ?
+cast-n c =
+    let z = c .before .before .before in
+    omega (arith, few-there _ (z .pre .0) (z .args .d) (z .pre .1) _ (c .before .row-at .ensures .0))
 
--- src/sightings.rt:51:31
-add-lookup-in : tie.Need-add-lookup-in
-add-lookup-in c = search needs
-
--- src/sightings.rt:51:41
-add-lookup-in-2 : tie.Need-add-lookup-in-2
-add-lookup-in-2 c = search needs
-
--- src/sightings.rt:51:28
-sub-lookup-in : tie.Need-sub-lookup-in
-sub-lookup-in c = search needs
-
--- src/sightings.rt:51:28
-part-lookup-in-start : tie.Need-part-lookup-in-start
-part-lookup-in-start c = search needs
-
--- src/sightings.rt:51:28
 part-lookup-in-end : tie.Need-part-lookup-in-end
-part-lookup-in-end c = ?
+part-lookup-in-end c =
+    let z = c .before .before .before in
+    omega (arith, row-within _ (z .pre .0) (z .args .d) (z .pre .1) _ (c .before .row-at .ensures .0))
 
--- src/sightings.rt:51:11
 lookup-in-requires : tie.Need-lookup-in-requires
-lookup-in-requires c κs = ?
+lookup-in-requires c κs =
+    let z = c .before .before .before .before in
+    let few = few-there _ (z .pre .0) (z .args .d) (z .pre .1) _ (c .before .before .row-at .ensures .0) in
+    let inside = row-within _ (z .pre .0) (z .args .d) (z .pre .1) _ (c .before .before .row-at .ensures .0) in
+    (few, simp (length-take, length-drop) (omega arith))
 
--- src/sightings.rt:52:28
-enum-told : tie.Need-enum-told
-enum-told c = search needs
+-- what was found, among the locks of the desk
+told : (c : tie.After-lookup-in)
+    → let z = c .before .before .before .before .before in
+    isFound (c .lookup-in .result) ≡ locked (z .args .uid) (kept (z .args .d) (z .args .s .now) .locks)
+told c =
+    let r = c .before .before .before in
+    let z = r .before .before in
+    ap isFound (c .lookup-in .ensures) ∙ ap (locked (z .args .uid)) (locks-lent (z .args .s .now) (z .pre .0) (z .args .d) (z .pre .1) _ (r .row-at .ensures .0))
 
--- src/sightings.rt:53:27
-enum-told-2 : tie.Need-enum-told-2
-enum-told-2 c = search needs
-
--- src/sightings.rt:45:1
 returns : tie.Need-returns
-returns c = ?
+returns c = sym (ap isFound (c .enum-told .given .1)) ∙ told (c .before .before)
 
--- src/sightings.rt:45:1
 returns-2 : tie.Need-returns-2
-returns-2 c = ?
+returns-2 c = sym (ap isFound (c .enum-told2 .given .1)) ∙ told (c .before .before)
 
 pub is-locked-spec : {M : Type 1} → statement M
 is-locked-spec =
     tie.close
     (tie.spec
     row-at-requires
-    add-n
+    (λ c. search needs)
     shared-slice-read-n
     cast-n
-    add-lookup-in
-    add-lookup-in-2
-    sub-lookup-in
-    part-lookup-in-start
+    (λ c. search needs)
+    (λ c. search needs)
+    (λ c. search needs)
+    (λ c. search needs)
     part-lookup-in-end
     lookup-in-requires
-    enum-told
-    enum-told-2
+    (λ c. search needs)
+    (λ c. search needs)
     returns
     returns-2)

@@ -1,64 +1,57 @@
+-- `desk::sightings::put_record` meets its contract. Assumes nothing.
+use mathlib.Core.Path.{_∙_}
+use native.Mathlib.Omega.{arith}
+use lib.Dec.{lit<}
+use lib.ListN.{length-take, length-drop}
+use Rattle.desk.proofs.LentRow.{store-size}
+use Rattle.desk.proofs.NewRecord.{entries-within, appended-size, record-back, has-room}
 use borrow.Author.Needs.{needs}
 use Rattle.desk.proofs.sightings.put_record.Statement.{statement}
 use Rattle.desk.proofs.sightings.put_record.Tie as tie
-use Rattle.desk.proofs.sightings.put_record.Reads as reads
-use Rattle.desk.proofs.sightings.put_record.Lts as lts
-use Rattle.octets.proofs.put16.Reads as put16-reads
-use Rattle.store.proofs.start.Reads as start-reads
-use Rattle.store.proofs.used.Reads as used-reads
-use Rattle.table.proofs.append.Reads as append-reads
 
--- src/sightings.rt:62:9
 start-requires : tie.Need-start-requires
-start-requires c κs = ?
+start-requires c κs = (lit< tt, omega (arith, store-size _ (c .before .before .pre .0)))
 
--- src/sightings.rt:63:9
 used-requires : tie.Need-used-requires
-used-requires c κs = ?
+used-requires c κs = omega (arith, store-size _ (c .before .before .before .before .pre .0))
 
--- src/sightings.rt:64:30
-add-append : tie.Need-add-append
-add-append c = search needs
-
--- src/sightings.rt:64:19
-sub-append : tie.Need-sub-append
-sub-append c = search needs
-
--- src/sightings.rt:64:19
-part-append-start : tie.Need-part-append-start
-part-append-start c = search needs
-
--- src/sightings.rt:64:19
 part-append-end : tie.Need-part-append-end
-part-append-end c = ?
+part-append-end c =
+    let a = c .before .before in
+    omega (arith, entries-within _ (a .before .before .before .pre .0) _ (a .start .ensures .0))
 
--- src/sightings.rt:64:45
-cast-append : tie.Need-cast-append
-cast-append c = search needs
-
--- src/sightings.rt:64:5
 append-requires : tie.Need-append-requires
-append-requires c κs = ?
+append-requires c κs =
+    let u = c .before in
+    let a = u .before .before in
+    let z = a .before .before .before in
+    let inside = entries-within _ (z .pre .0) _ (a .start .ensures .0) in
+    simp (length-take, length-drop) (omega (arith, has-room _ (z .pre .0) (z .args .d) (z .pre .1) (z .pre .2)))
 
--- src/sightings.rt:65:26
-add-put16 : tie.Need-add-put16
-add-put16 c = search needs
-
--- src/sightings.rt:65:25
 cast-put16 : tie.Need-cast-put16
-cast-put16 c = ?
+cast-put16 c =
+    let u = c .before .before .before .before .before in
+    let z = u .before .before .before .before .before in
+    omega (arith, has-room _ (z .pre .0) (z .args .d) (z .pre .1) (z .pre .2))
 
--- src/sightings.rt:65:5
 put16-requires : tie.Need-put16-requires
-put16-requires c κs = ?
+put16-requires c κs =
+    let p = c .before .before .before in
+    let u = p .before .before in
+    let a = u .before .before in
+    let z = a .before .before .before in
+    omega (arith, appended-size (z .args .s .now) (z .pre .0) (a .start .result) (a .start .ensures .0) (u .used .result) (z .args .d) (z .args .r) (p .append .last .0) (p .append .ensures))
 
--- src/sightings.rt:58:1
-same-length : tie.Need-same-length
-same-length c = search needs
-
--- src/sightings.rt:58:1
 returns : tie.Need-returns
-returns c = ?
+returns c =
+    let q = c .before .before in
+    let p = q .before .before .before .before in
+    let u = p .before .before in
+    let a = u .before .before in
+    let z = a .before .before .before in
+    q .put16 .ensures
+    ∙ record-back (z .args .s .now) (z .pre .0) (a .start .result) (a .start .ensures .0) (u .used .result) (z .args .d) (z .args .r) (p .append .last .0) (p .append .ensures)
+    (u .used .ensures .0)
 
 pub put-record-spec : {M : Type 1} → statement M
 put-record-spec =
@@ -66,14 +59,14 @@ put-record-spec =
     (tie.spec
     start-requires
     used-requires
-    add-append
-    sub-append
-    part-append-start
+    (λ c. search needs)
+    (λ c. search needs)
+    (λ c. search needs)
     part-append-end
-    cast-append
+    (λ c. search needs)
     append-requires
-    add-put16
+    (λ c. search needs)
     cast-put16
     put16-requires
-    same-length
+    (λ c. search needs)
     returns)

@@ -1,133 +1,148 @@
+-- `desk::sightings::sight` meets its contract: one way for each outcome. Assumes nothing.
+use mathlib.Core.Path.{_≡_, sym, ap, _∙_}
+use mathlib.Core.Bool.{false}
+use mathlib.Core.List.{List}
+use Prim.Native.Nat.{ℕ}
+use native.Mathlib.Omega.{arith}
+use Rattle.timer.specs.declared.Timer.{Timer}
+use Rattle.locks.specs.Locks.{locked}
+use Rattle.rules.specs.Records.{recordOf}
+use Rattle.store.specs.Layout.{rowAt}
+use Rattle.desk.specs.Row.{markedRow, lockedRow}
+use Rattle.desk.specs.Removal.{recordedIn}
+use Rattle.desk.specs.Obeyed.{kept}
+use Rattle.desk.proofs.Doing.{row-size}
+use Rattle.desk.proofs.LentRow.{store-size, few-locks, row-within, row-lent, row-back}
+use Rattle.desk.proofs.Sights.{timer-read, marked-size, locked-size, WithRecord, ignored, lost, recorded}
 use borrow.Author.Needs.{needs}
 use Rattle.desk.proofs.sightings.sight.Statement.{statement}
 use Rattle.desk.proofs.sightings.sight.Tie as tie
-use Rattle.desk.proofs.sightings.sight.Reads as reads
-use Rattle.desk.proofs.sightings.sight.Lts as lts
-use Rattle.desk.proofs.records.held.Reads as held-reads
-use Rattle.desk.proofs.row.add_lock.Reads as add-lock-reads
-use Rattle.desk.proofs.row.set_mark.Reads as set-mark-reads
-use Rattle.desk.proofs.sightings.is_locked.Reads as is-locked-reads
-use Rattle.desk.proofs.sightings.put_record.Reads as put-record-reads
-use Rattle.desk.proofs.sightings.record_of.Reads as record-of-reads
-use Rattle.store.proofs.row_at.Reads as row-at-reads
-use Rattle.timer.proofs.read.Reads as read-reads
 
--- src/sightings.rt:73:8
-is-locked-requires : tie.Need-is-locked-requires
-is-locked-requires c κs = search needs
+-- ---- ignored
 
--- src/sightings.rt:74:9
-same-length : tie.Need-same-length
-same-length c = search needs
-
--- src/sightings.rt:74:9
 returns : tie.Need-returns
-returns c = ?
+returns c =
+    let i = c .before in
+    let z = i .before .before .before in
+    ignored (z .args .s .now) (z .pre .0) (z .args .d) (z .pre .1) (z .args .uid) (z .args .mask) (sym (i .is-locked .ensures) ∙ c .if1 .taken)
 
--- src/sightings.rt:76:9
 row-at-requires : tie.Need-row-at-requires
-row-at-requires c κs = ?
+row-at-requires c κs =
+    let z = c .before .before .before .before .before in
+    (z .pre .1, omega (arith, store-size _ (z .pre .0)))
 
--- src/sightings.rt:77:14
-held-requires : tie.Need-held-requires
-held-requires c κs = search needs
+-- not locked
+free : (c : tie.Else1)
+    → let z = c .before .before .before .before in
+    locked (z .args .uid) (kept (z .args .d) (z .args .s .now) .locks) ≡ false
+free c = sym (c .before .is-locked .ensures) ∙ c .if1 .left
 
--- src/sightings.rt:78:34
-add-set-mark : tie.Need-add-set-mark
-add-set-mark c = search needs
+-- ---- lost
 
--- src/sightings.rt:78:23
-sub-set-mark : tie.Need-sub-set-mark
-sub-set-mark c = search needs
-
--- src/sightings.rt:78:23
-part-set-mark-start : tie.Need-part-set-mark-start
-part-set-mark-start c = search needs
-
--- src/sightings.rt:78:23
 part-set-mark-end : tie.Need-part-set-mark-end
-part-set-mark-end c = ?
+part-set-mark-end c =
+    let r = c .before .before .before in
+    let z = r .before .before .before .before .before .before in
+    omega (arith, row-within _ (z .pre .0) (z .args .d) (z .pre .1) _ (r .row-at .ensures .0))
 
--- src/sightings.rt:78:9
-set-mark-requires : tie.Need-set-mark-requires
-set-mark-requires c κs = search needs
-
--- src/sightings.rt:79:9
-same-length-2 : tie.Need-same-length-2
-same-length-2 c = search needs
-
--- src/sightings.rt:79:9
 returns-2 : tie.Need-returns-2
-returns-2 c = ?
+returns-2 c =
+    let m = c .before .before in
+    let t = m .before .before in
+    let r = t .before .before .before in
+    let x = r .before .before in
+    let z = x .before .before .before .before in
+    let s = z .args .s .now in
+    let d = z .args .d in
+    rw (row-back s (z .pre .0) d (z .pre .1) (r .row-at .result) (r .row-at .ensures .0) markedRow (m .set-mark .last .0) (m .set-mark .ensures) (marked-size _ ∙ row-size s (z .pre .0) d (z .pre .1)))
+    (lost s (z .pre .0) d (z .pre .1) (z .args .uid) (z .args .mask) (λ i. x .before .before .before .slice-known .given i .fits) (z .fits .uid .fits) (z .fits .mask .fits) (free x)
+    (omega (arith, t .if2 .taken, t .before .held .ensures .0)))
 
--- src/sightings.rt:81:28
-add-read : tie.Need-add-read
-add-read c = search needs
+-- ---- recorded
 
--- src/sightings.rt:81:9
 read-requires : tie.Need-read-requires
-read-requires c κs = ?
+read-requires c κs =
+    let r = c .before .before .before .before in
+    let z = r .before .before .before .before .before .before in
+    omega (arith, row-within _ (z .pre .0) (z .args .d) (z .pre .1) _ (r .row-at .ensures .0))
 
--- src/sightings.rt:82:22
-record-of-requires : tie.Need-record-of-requires
-record-of-requires c κs = search needs
+-- the store with the record
+new : (c : tie.After-put-record)
+    → let z = c .before .before .before .before .before .before .before .before .before .before .before .before .before .before in
+    WithRecord (z .args .d) (z .args .uid) (z .args .mask) (z .args .s .now) (c .put-record .last .0)
+new c =
+    let t = c .before .before .before in
+    let f = t .before .before in
+    let r = f .before .before .before in
+    let x = r .before .before in
+    let z = x .before .before .before .before in
+    let s = z .args .s .now in
+    let d = z .args .d in
+    recorded s (z .pre .0) d (z .pre .1) (z .args .uid) (z .args .mask) (λ i. x .before .before .before .slice-known .given i .fits) (z .fits .uid .fits) (z .fits .mask .fits) (free x)
+    (omega (arith, f .if2 .left, f .before .held .ensures .0)) (c .put-record .last .0)
+    (c .put-record .ensures
+    ∙ ap (λ (y : List ℕ). recordedIn d y s)
+    (c .before .record-of .ensures
+    ∙ ap (λ (y : Timer). recordOf (z .args .uid) y (z .args .mask)) (t .read .ensures ∙ timer-read s (z .pre .0) d (z .pre .1) (r .row-at .result) (r .row-at .ensures .0))))
 
--- src/sightings.rt:82:5
-put-record-requires : tie.Need-put-record-requires
-put-record-requires c κs = search needs
+-- the row lies where it lay
+place-now : (c : tie.After-put-record)
+    → let r = c .before .before .before .before .before .before .before .before in
+    r .row-at .result ≡ rowAt (r .before .before .before .before .before .before .args .d) (c .put-record .last .0)
+place-now c = c .before .before .before .before .before .before .before .before .row-at .ensures .0 ∙ sym (new c .place)
 
--- src/sightings.rt:83:30
-add-add-lock : tie.Need-add-add-lock
-add-add-lock c = search needs
-
--- src/sightings.rt:83:19
-sub-add-lock : tie.Need-sub-add-lock
-sub-add-lock c = search needs
-
--- src/sightings.rt:83:19
-part-add-lock-start : tie.Need-part-add-lock-start
-part-add-lock-start c = search needs
-
--- src/sightings.rt:83:19
 part-add-lock-end : tie.Need-part-add-lock-end
-part-add-lock-end c = ?
+part-add-lock-end c =
+    let p = c .before .before in
+    let z = p .before .before .before .before .before .before .before .before .before .before .before .before .before .before in
+    omega (arith, row-within _ (new p .still) (z .args .d) (z .pre .1) _ (place-now p))
 
--- src/sightings.rt:83:5
 add-lock-requires : tie.Need-add-lock-requires
-add-lock-requires c κs = ?
+add-lock-requires c κs =
+    let p = c .before .before .before in
+    let r = p .before .before .before .before .before .before .before .before in
+    let z = r .before .before .before .before .before .before in
+    let s′ = p .put-record .last .0 in
+    let e = new p .still in
+    rw (row-lent s′ e (z .args .d) (z .pre .1) (r .row-at .result) (place-now p)) (row-size s′ e (z .args .d) (z .pre .1), few-locks s′ e (z .args .d) (z .pre .1))
 
--- src/sightings.rt:69:1
-same-length-3 : tie.Need-same-length-3
-same-length-3 c = search needs
-
--- src/sightings.rt:69:1
 returns-3 : tie.Need-returns-3
-returns-3 c = ?
+returns-3 c =
+    let a = c .before .before in
+    let k = a .before .before in
+    let p = k .before .before in
+    let r = p .before .before .before .before .before .before .before .before in
+    let z = r .before .before .before .before .before .before in
+    let s′ = p .put-record .last .0 in
+    let e = new p .still in
+    let l = locked-size (z .args .uid) _ ∙ row-size s′ e (z .args .d) (z .pre .1) in
+    rw (row-back s′ e (z .args .d) (z .pre .1) (r .row-at .result) (place-now p) (lockedRow (z .args .uid)) (a .add-lock .last .0) (a .add-lock .ensures) l)
+    (new p .ends (λ i. k .slice-known3 .given i .fits))
 
 pub sight-spec : {M : Type 1} → statement M
 sight-spec =
     tie.close
     (tie.spec
-    is-locked-requires
-    same-length
+    (λ c κs. search needs)
+    (λ c. search needs)
     returns
     row-at-requires
-    held-requires
-    add-set-mark
-    sub-set-mark
-    part-set-mark-start
+    (λ c κs. search needs)
+    (λ c. search needs)
+    (λ c. search needs)
+    (λ c. search needs)
     part-set-mark-end
-    set-mark-requires
-    same-length-2
+    (λ c κs. search needs)
+    (λ c. search needs)
     returns-2
-    add-read
+    (λ c. search needs)
     read-requires
-    record-of-requires
-    put-record-requires
-    add-add-lock
-    sub-add-lock
-    part-add-lock-start
+    (λ c κs. search needs)
+    (λ c κs. search needs)
+    (λ c. search needs)
+    (λ c. search needs)
+    (λ c. search needs)
     part-add-lock-end
     add-lock-requires
-    same-length-3
+    (λ c. search needs)
     returns-3)

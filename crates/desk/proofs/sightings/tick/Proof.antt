@@ -1,42 +1,36 @@
+-- `desk::sightings::tick` meets its contract: after d turns the first d desks are ticked. Assumes nothing.
+use Prim.Native.Nat.{_-_, _≤_}
+use mathlib.Core.Path.{sym, _∙_}
+use native.Mathlib.Omega.{arith}
+use Rattle.table.specs.Entries.{desks}
+use Rattle.desk.proofs.LentRow.{store-size}
+use Rattle.desk.proofs.Ticks.{TickedTo, ticked-none, ticked-more, ticked-all}
+use borrow.Author.Needs.{needs}
 use Rattle.desk.proofs.sightings.tick.Statement.{statement}
 use Rattle.desk.proofs.sightings.tick.Tie as tie
-use Rattle.desk.proofs.sightings.tick.Reads as reads
-use Rattle.desk.proofs.sightings.tick.Lts as lts
-use Rattle.desk.proofs.sightings.tick_desk.Reads as tick-desk-reads
 
 abbrev Inv-loop : tie.InvT-loop
-Inv-loop s₀ d₀ s d = ?
+Inv-loop s₀ d₀ s d = (d ≤ desks) × TickedTo d s₀ s
 
 abbrev μ-loop : tie.MeasureT-loop
-μ-loop s₀ d₀ s d = ?
+μ-loop s₀ d₀ s d = desks - d
 
--- src/sightings.rt:101:5
 loop-holds : tie.Need-loop-holds Inv-loop μ-loop
-loop-holds c = ?
+loop-holds c = (omega arith, ticked-none _ (c .before .pre))
 
--- src/sightings.rt:102:9
 tick-desk-requires : tie.Need-tick-desk-requires Inv-loop μ-loop
-tick-desk-requires c κs = ?
+tick-desk-requires c κs = (c .before .before .loop .inv .1 .still, omega arith)
 
--- src/sightings.rt:103:9
-add-d : tie.Need-add-d Inv-loop μ-loop
-add-d c = ?
-
--- src/sightings.rt:101:5
-loop-less : tie.Need-loop-less Inv-loop μ-loop
-loop-less c = ?
-
--- src/sightings.rt:101:5
 loop-again : tie.Need-loop-again Inv-loop μ-loop
-loop-again c = ?
+loop-again c =
+    let l = c .before .before .before .before .before in
+    (omega arith, ticked-more _ _ _ _ (omega arith) (l .loop .inv .1) (c .before .before .tick-desk .ensures))
 
--- src/sightings.rt:96:1
 same-length : tie.Need-same-length Inv-loop μ-loop
-same-length c = ?
+same-length c = store-size _ (c .before .loop .inv .1 .still) ∙ sym (store-size _ (c .before .before .before .pre))
 
--- src/sightings.rt:96:1
 returns : tie.Need-returns Inv-loop μ-loop
-returns c = ?
+returns c = ticked-all _ _ _ (omega arith) (c .before .loop .inv .1)
 
 pub tick-spec : {M : Type 1} → statement M
 tick-spec =
@@ -46,8 +40,8 @@ tick-spec =
     μ-loop
     loop-holds
     tick-desk-requires
-    add-d
-    loop-less
+    (λ c. search needs)
+    (λ c. search needs)
     loop-again
     same-length
     returns)

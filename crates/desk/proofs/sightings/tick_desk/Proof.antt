@@ -1,52 +1,49 @@
+-- `desk::sightings::tick_desk` meets its contract. Assumes nothing.
+use mathlib.Core.Path.{_∙_}
+use native.Mathlib.Omega.{arith}
+use Rattle.desk.specs.Row.{tickedRow}
+use Rattle.desk.proofs.Doing.{row-size}
+use Rattle.desk.proofs.LentRow.{store-size, few-locks, row-within, row-lent, row-back}
+use Rattle.desk.proofs.Ticks.{ticked-size, row-ticked}
 use borrow.Author.Needs.{needs}
 use Rattle.desk.proofs.sightings.tick_desk.Statement.{statement}
 use Rattle.desk.proofs.sightings.tick_desk.Tie as tie
-use Rattle.desk.proofs.sightings.tick_desk.Reads as reads
-use Rattle.desk.proofs.sightings.tick_desk.Lts as lts
-use Rattle.desk.proofs.row.tick.Reads as tick-reads
-use Rattle.store.proofs.row_at.Reads as row-at-reads
 
--- src/sightings.rt:91:9
 row-at-requires : tie.Need-row-at-requires
-row-at-requires c κs = ?
+row-at-requires c κs = (c .before .before .pre .1, omega (arith, store-size _ (c .before .before .pre .0)))
 
--- src/sightings.rt:92:26
-add-tick : tie.Need-add-tick
-add-tick c = search needs
-
--- src/sightings.rt:92:15
-sub-tick : tie.Need-sub-tick
-sub-tick c = search needs
-
--- src/sightings.rt:92:15
-part-tick-start : tie.Need-part-tick-start
-part-tick-start c = search needs
-
--- src/sightings.rt:92:15
 part-tick-end : tie.Need-part-tick-end
-part-tick-end c = ?
+part-tick-end c =
+    let z = c .before .before .before in
+    omega (arith, row-within _ (z .pre .0) (z .args .d) (z .pre .1) _ (c .row-at .ensures .0))
 
--- src/sightings.rt:92:5
 tick-requires : tie.Need-tick-requires
-tick-requires c κs = ?
+tick-requires c κs =
+    let r = c .before in
+    let z = r .before .before .before in
+    let s = z .args .s .now in
+    let d = z .args .d in
+    rw (row-lent s (z .pre .0) d (z .pre .1) (r .row-at .result) (r .row-at .ensures .0)) (row-size s (z .pre .0) d (z .pre .1), few-locks s (z .pre .0) d (z .pre .1))
 
--- src/sightings.rt:87:1
-same-length : tie.Need-same-length
-same-length c = search needs
-
--- src/sightings.rt:87:1
 returns : tie.Need-returns
-returns c = ?
+returns c =
+    let t = c .before .before in
+    let r = t .before .before in
+    let z = r .before .before .before in
+    let s = z .args .s .now in
+    let d = z .args .d in
+    rw (row-back s (z .pre .0) d (z .pre .1) (r .row-at .result) (r .row-at .ensures .0) tickedRow (t .tick .last .0) (t .tick .ensures) (ticked-size _ ∙ row-size s (z .pre .0) d (z .pre .1)))
+    (row-ticked s (z .pre .0) (λ i. r .before .before .slice-known .given i .fits) d (z .pre .1))
 
 pub tick-desk-spec : {M : Type 1} → statement M
 tick-desk-spec =
     tie.close
     (tie.spec
     row-at-requires
-    add-tick
-    sub-tick
-    part-tick-start
+    (λ c. search needs)
+    (λ c. search needs)
+    (λ c. search needs)
     part-tick-end
     tick-requires
-    same-length
+    (λ c. search needs)
     returns)

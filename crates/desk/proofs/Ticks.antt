@@ -1,0 +1,88 @@
+-- A tick of one desk, and of all desks one after the other. Assumes nothing.
+use Prim.Native.Nat.{ℕ, zero, suc, _+_, _≤_, _<_}
+use mathlib.Core.Path.{_≡_, refl, sym, ap, _∙_}
+use mathlib.Core.Bool.{true}
+use mathlib.Core.List.{List, [], _∷_, _++_, map, append-nil}
+use native.Mathlib.Numerals.{add-one}
+use native.Mathlib.Omega.{arith}
+use lib.ListN.{length, take, drop, set, getD, length-map, drop-of-length-le}
+use lib.Seq.{take-all}
+use Rattle.octets.specs.Parts.{put}
+use Rattle.octets.specs.Numbers.{Octets}
+use Rattle.octets.proofs.Numbers.{octets-part}
+use Rattle.octets.proofs.Puts.{put-length}
+use Rattle.timer.proofs.ReadBack.{timer-length}
+use Rattle.table.specs.Entries.{desks, recordsOf}
+use Rattle.rules.specs.Desk.{freshDesk}
+use Rattle.rules.specs.Sighting.{ticked}
+use Rattle.rules.specs.Box.{deskAt}
+use Rattle.rules.proofs.Legality.{ticked-legal}
+use Rattle.store.specs.Layout.{rowWidth, rowAt, rowOf}
+use Rattle.store.specs.View.{inUse, view}
+use Rattle.store.specs.Sound.{sound}
+use Rattle.locks.specs.Locks.{sweptOf}
+use Rattle.desk.specs.Row.{locksOf, tickedRow, steppedRow, timerRow, sweptRow}
+use Rattle.desk.specs.Obeyed.{kept, Says, Ticked}
+use Rattle.desk.proofs.Doing.{Flags, kept-is, row-size, row-flags, kept-legal, row-says}
+use Rattle.desk.proofs.Flagged.{timer-flags, locks-flags}
+use Rattle.desk.proofs.Meaning.{ticked-means}
+use Rattle.desk.proofs.LentRow.{few-locks}
+use Rattle.desk.proofs.Saying.{view-length}
+
+-- ---- a row
+
+swept-size : (row : List ℕ) → length (sweptRow row) ≡ length row
+unfolding sweptRow
+swept-size row = simp put-length
+
+pub ticked-size : (row : List ℕ) → length (tickedRow row) ≡ length row
+unfolding tickedRow steppedRow timerRow
+ticked-size row = put-length 451 _ (sweptRow row) ∙ swept-size row
+
+ticked-flags : (row : List ℕ) → length row ≡ rowWidth → Flags row → Flags (tickedRow row)
+unfolding tickedRow steppedRow sweptRow
+ticked-flags row l f = timer-flags (sweptRow row) (swept-size row ∙ l) (locks-flags row l f (sweptOf (locksOf row))) _ (timer-length _)
+
+-- ---- a desk
+
+pub row-ticked : (s : List ℕ) → sound s ≡ true → Octets s → (d : ℕ) → d < desks → Says d (ticked (kept d s)) s (put (rowAt d s) (tickedRow (rowOf d s)) s)
+row-ticked s e o d h =
+    let row : List ℕ = rowOf d s in
+    let l : length row ≡ rowWidth = row-size s e d h in
+    row-says s e d h (tickedRow row) (ticked (kept d s)) (ticked-size row ∙ l)
+    (ticked-means row l (recordsOf d (inUse s)) (octets-part (rowAt d s) rowWidth s o) (few-locks s e d h) ∙ ap ticked (sym (kept-is s e d h)))
+    (ticked-legal (kept d s) (kept-legal s e d h o))
+    (ticked-flags row l (row-flags s e d h))
+
+-- ---- all desks
+
+-- a list after i turns: the first i as f makes them, the others as they were
+abbrev turned : {A : Type 0} → (A → A) → ℕ → List A → List A
+turned f i v = take i (map f v) ++ drop i v
+
+turn : {A : Type 0} (f : A → A) (i : ℕ) (v : List A) (x : A) → i < length v → set (turned f i v) i (f (getD (turned f i v) i x)) ≡ turned f (suc i) v
+turn f i [] x h = absurd (omega arith)
+turn f zero (y ∷ v) x h = refl
+turn f (suc i) (y ∷ v) x h = ap (_∷_ (f y)) (turn f i v x (omega arith))
+
+turned-all : {A : Type 0} (f : A → A) (i : ℕ) (v : List A) → length v ≤ i → turned f i v ≡ map f v
+turned-all f i v h = rw (take-all i (map f v) (omega (arith, length-map v f)), drop-of-length-le v h, append-nil)
+
+-- the store after n turns
+pub record TickedTo (n : ℕ) (s s′ : List ℕ) : Type 0 where
+  pub still : sound s′ ≡ true
+  pub view-is : view s′ ≡ turned ticked n (view s)
+
+pub ticked-none : (s : List ℕ) → sound s ≡ true → TickedTo 0 s s
+ticked-none s e = record { still = e; view-is = refl }
+
+pub ticked-more : (n : ℕ) (s s′ s″ : List ℕ) → n < desks → TickedTo n s s′ → Says n (ticked (kept n s′)) s′ s″ → TickedTo (n + 1) s s″
+unfolding deskAt
+ticked-more n s s′ s″ h a b =
+    record {
+      still = b .still;
+      view-is = b .view-is ∙ rw (a .view-is, add-one) (turn ticked n (view s) freshDesk (omega (arith, view-length s)));
+    }
+
+pub ticked-all : (n : ℕ) (s s′ : List ℕ) → desks ≤ n → TickedTo n s s′ → Ticked s s′
+ticked-all n s s′ h a = record { still = a .still; view-is = a .view-is ∙ turned-all ticked n (view s) (omega (arith, view-length s)) }
