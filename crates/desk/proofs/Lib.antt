@@ -3,3 +3,5 @@ pub mod Doing
 pub mod Flagged
 pub mod Lent
 pub mod Meaning
+pub mod LentTable
+pub mod Removes

@@ -1,47 +1,37 @@
+-- `desk::records::held` meets its contract. Assumes nothing.
+use mathlib.Core.Path.{ap, _∙_}
+use mathlib.Core.List.{List}
+use Prim.Native.Nat.{ℕ}
+use native.Mathlib.Omega.{arith}
 use borrow.Author.Needs.{needs}
+use lib.Dec.{lit<}
+use lib.ListN.{length}
+use Rattle.table.specs.Entries.{recordsOf}
+use Rattle.desk.proofs.LentTable.{store-length, few-held, table-inside, table-fits, table-lent}
 use Rattle.desk.proofs.records.held.Statement.{statement}
 use Rattle.desk.proofs.records.held.Tie as tie
-use Rattle.desk.proofs.records.held.Reads as reads
-use Rattle.desk.proofs.records.held.Lts as lts
-use Rattle.store.proofs.start.Reads as start-reads
-use Rattle.store.proofs.used.Reads as used-reads
-use Rattle.table.proofs.held.Reads as held-reads
 
--- src/records.rt:26:9
 start-requires : tie.Need-start-requires
-start-requires c κs = ?
+start-requires c κs = (lit< tt, omega (arith, store-length _ (c .before .pre .0)))
 
--- src/records.rt:27:9
 used-requires : tie.Need-used-requires
-used-requires c κs = ?
+used-requires c κs = omega (arith, store-length _ (c .before .before .pre .0))
 
--- src/records.rt:28:24
-add-held : tie.Need-add-held
-add-held c = search needs
-
--- src/records.rt:28:17
-sub-held : tie.Need-sub-held
-sub-held c = search needs
-
--- src/records.rt:28:17
-part-held-start : tie.Need-part-held-start
-part-held-start c = search needs
-
--- src/records.rt:28:17
 part-held-end : tie.Need-part-held-end
-part-held-end c = ?
+part-held-end c = omega (arith, table-inside _ (c .before .before .before .pre .0) _ _ (c .before .start .ensures .0) (c .used .ensures .0))
 
--- src/records.rt:28:39
-cast-held : tie.Need-cast-held
-cast-held c = search needs
-
--- src/records.rt:28:5
 held-requires : tie.Need-held-requires
-held-requires c κs = ?
+held-requires c κs =
+    let u = c .before in
+    table-fits _ (u .before .before .before .pre .0) _ _ (u .before .start .ensures .0) (u .used .ensures .0)
 
--- src/records.rt:22:1
 returns : tie.Need-returns
-returns c = ?
+returns c =
+    let u = c .before .before in
+    let z = u .before .before .before in
+    let s = z .args .s .now in
+    let r = c .held .ensures ∙ ap (λ (es : List (List ℕ)). length (recordsOf (z .args .d) es)) (table-lent s (z .pre .0) _ _ (u .before .start .ensures .0) (u .used .ensures .0)) in
+    (r, omega (arith, r, few-held s (z .pre .0) (z .args .d) (z .pre .1)))
 
 pub held-spec : {M : Type 1} → statement M
 held-spec =
@@ -49,10 +39,10 @@ held-spec =
     (tie.spec
     start-requires
     used-requires
-    add-held
-    sub-held
-    part-held-start
+    (λ c. search needs)
+    (λ c. search needs)
+    (λ c. search needs)
     part-held-end
-    cast-held
+    (λ c. search needs)
     held-requires
     returns)
