@@ -1,5 +1,6 @@
 pub mod Unknowns
 pub mod Doing
+pub mod Lengths
 pub mod Flagged
 pub mod Lent
 pub mod Meaning
