@@ -7,7 +7,7 @@ use native.Mathlib.Nat.{add-zero}
 use native.Mathlib.Omega.{arith}
 use lib.Dec.{lit<}
 use lib.Seq.{length-take-le}
-use lib.ListN.{length, take, drop, length-take, length-drop}
+use lib.ListN.{length, take, drop, length-take, length-drop, length-append}
 use Rattle.octets.specs.Parts.{part, put, concat}
 use Rattle.octets.specs.Numbers.{octets}
 use Rattle.octets.proofs.Tests.{and-right}
@@ -21,9 +21,12 @@ use Rattle.rules.specs.Records.{counted}
 use Rattle.store.specs.Layout.{storeSize, sizeOf, header, startOf, usedOf, area}
 use Rattle.store.specs.View.{inUse}
 use Rattle.store.specs.Sound.{sound, tableSound}
-use Rattle.store.proofs.Changes.{Sound, sound-facts}
-use Rattle.store.proofs.LentAreas.{entries-lent}
+use Rattle.store.proofs.Changes.{Sound, sound-facts, area-length}
+use Rattle.store.proofs.LentAreas.{areas-at, areas-header, entries-lent}
 use Rattle.desk.specs.Removal.{removedFrom}
+
+pub in-use : (s : List ℕ) → inUse s ≡ entries (usedOf (header s)) (area s 2)
+in-use s = rw (areas-header s, areas-at s 2 (lit< tt))
 
 module _ (s : List ℕ) (e : sound s ≡ true) where
   facts : Sound s
@@ -35,6 +38,19 @@ module _ (s : List ℕ) (e : sound s ≡ true) where
   pub few-held : (d : ℕ) → d < desks → length (recordsOf d (inUse s)) ≤ share
   unfolding tableSound
   few-held d h = sharesKept-at (inUse s) d (and-right (ownersBelow desks (inUse s)) (sharesKept (inUse s)) (facts .table)) h
+
+  pub use-fits : width * usedOf (header s) ≤ length (area s 2)
+  use-fits = omega (arith, facts .head .used, area-length s facts 2 (lit< tt))
+
+  -- the first m records of desk d, one after the other, and with their count
+  pub told-length : (d m : ℕ) → m ≤ length (recordsOf d (inUse s)) → length (concat (take m (recordsOf d (inUse s)))) ≡ recordWidth * m
+  told-length d m few =
+      let n : length (take m (recordsOf d (inUse s))) ≡ m = length-take-le m (recordsOf d (inUse s)) few in
+      (rw (← in-use s) at (gather-size (usedOf (header s)) d 0 (area s 2) use-fits m)) ∙ ap (λ (k : ℕ). recordWidth * k) n
+
+  pub counted-length : (d m : ℕ) → m ≤ length (recordsOf d (inUse s)) → length (counted (take m (recordsOf d (inUse s)))) ≡ 2 + recordWidth * m
+  unfolding counted
+  counted-length d m few = simp (length-append, octets-length, told-length d m few)
 
   -- at is where they begin, n how many are in use
   module _ (at n : ℕ) (q : at ≡ startOf (header s) 2) (u : n ≡ usedOf (header s)) where
@@ -78,8 +94,7 @@ module _ (s : List ℕ) (e : sound s ≡ true) where
     counted-back d m to out one ys few room o y =
         let xs = concat (take m (recordsOf d (entries n lent))) in
         let count : length (take m (recordsOf d (inUse s))) ≡ m = length-take-le m (recordsOf d (inUse s)) few in
-        let count′ : length (take m (recordsOf d (entries n lent))) ≡ m = ap (λ (l : List (List ℕ)). length (take m (recordsOf d l))) table-lent ∙ count in
-        let size : length xs ≡ recordWidth * m = gather-size n d 0 lent table-fits m ∙ ap (λ (k : ℕ). recordWidth * k) count′ in
+        let size : length xs ≡ recordWidth * m = rw table-lent (told-length d m few) in
         let same : length one ≡ length out = ap length o ∙ put-length to (octets 2 m) out in
         put-lent (to + 2) (length one - (to + 2)) 0 xs ys one y (omega arith) (omega arith)
         ∙ rw (add-zero, o, table-lent, count, put-append to (octets 2 m), octets-length 2 m)

@@ -6,3 +6,6 @@ pub mod Lent
 pub mod Meaning
 pub mod LentTable
 pub mod Removes
+pub mod Empties
+pub mod RowOctets
+pub mod TellsRecords

@@ -17,20 +17,14 @@ use Rattle.store.specs.Layout.{sizeOf, header, startOf, usedOf, area, areas, ro
 use Rattle.store.specs.View.{deskIn, inUse}
 use Rattle.store.specs.Sound.{sound, tableSound}
 use Rattle.store.proofs.Changes.{Sound, sound-facts, area-length}
-use Rattle.store.proofs.LentAreas.{areas-at, areas-header}
 use Rattle.desk.specs.Obeyed.{Says}
 use Rattle.desk.specs.Removal.{removedFrom}
 use Rattle.desk.proofs.Doing.{entries-say}
-
-in-use : (s : List ℕ) → inUse s ≡ entries (usedOf (header s)) (area s 2)
-in-use s = rw (areas-header s, areas-at s 2 (lit< tt))
+use Rattle.desk.proofs.LentTable.{in-use, use-fits}
 
 module _ (s : List ℕ) (e : sound s ≡ true) where
   facts : Sound s
   facts = sound-facts s e
-
-  fits : width * usedOf (header s) ≤ length (area s 2)
-  fits = omega (arith, facts .head .used, area-length s facts 2 (lit< tt))
 
   table-left : (d k : ℕ) → tableSound (removed (usedOf (header s)) d k (area s 2)) ≡ true
   unfolding tableSound
@@ -38,7 +32,7 @@ module _ (s : List ℕ) (e : sound s ≡ true) where
       let n = usedOf (header s) in
       let a = area s 2 in
       let ok : ownersBelow desks (entries n a) && sharesKept (entries n a) ≡ true = rw (in-use s) at (facts .table) in
-      rw (remove-owners n d k a fits (and-left (ownersBelow desks (entries n a)) _ ok), remove-shares n d k a fits (and-right (ownersBelow desks (entries n a)) _ ok))
+      rw (remove-owners n d k a (use-fits s e) (and-left (ownersBelow desks (entries n a)) _ ok), remove-shares n d k a (use-fits s e) (and-right (ownersBelow desks (entries n a)) _ ok))
 
   pub removes : (d k : ℕ) (desk′ : Desk) → d < desks → deskIn (rowOf d s) (drop k (recordsOf d (inUse s))) ≡ desk′ → DeskLegal desk′ → Says d desk′ s (removedFrom d k s)
   unfolding removedFrom
@@ -46,11 +40,11 @@ module _ (s : List ℕ) (e : sound s ≡ true) where
       let n = usedOf (header s) in
       let a = area s 2 in
       let es = without d k (entries n a) in
-      let own : recordsOf d (removed n d k a) ≡ drop k (recordsOf d (inUse s)) = remove-own n d k a fits ∙ ap (λ (l : List (List ℕ)). drop k (recordsOf d l)) (sym (in-use s)) in
+      let own : recordsOf d (removed n d k a) ≡ drop k (recordsOf d (inUse s)) = remove-own n d k a (use-fits s e) ∙ ap (λ (l : List (List ℕ)). drop k (recordsOf d l)) (sym (in-use s)) in
       rw (in-use s)
       (entries-say s e d h (put 0 (concat es) a) (length es) desk′
       (put-length 0 (concat es) a ∙ area-length s facts 2 (lit< tt))
-      (omega (arith, remove-fewer n d k a fits, facts .head .used))
+      (omega (arith, remove-fewer n d k a (use-fits s e), facts .head .used))
       (table-left d k)
-      (λ c b ne. remove-others n d k a fits c ne ∙ ap (recordsOf c) (sym (in-use s)))
+      (λ c b ne. remove-others n d k a (use-fits s e) c ne ∙ ap (recordsOf c) (sym (in-use s)))
       (ap (deskIn (rowOf d s)) own ∙ q) p)
