@@ -1,5 +1,8 @@
 pub mod Unknowns
 pub mod Doing
+pub mod LentRow
+pub mod Told
+pub mod Answers
 pub mod Lengths
 pub mod Flagged
 pub mod Lent
