@@ -36,7 +36,7 @@ ruled-done c kind d body q = rw q
 
 module _ (s : List ℕ) (e : sound s ≡ true) (d : ℕ) (h : d < desks) where
   -- a reply without data
-  quiet : (res : Result) (status : ℕ) (desk′ : Desk) (r : Reply) (s′ : List ℕ) → res ≡ result status [] desk′ → r ≡ record { status = status; len = 0 }
+  pub quiet : (res : Result) (status : ℕ) (desk′ : Desk) (r : Reply) (s′ : List ℕ) → res ≡ result status [] desk′ → r ≡ record { status = status; len = 0 }
       → Says d desk′ s s′ → Done d res r s s′
   unfolding result
   quiet res status desk′ r s′ q p says = rw (q, p) (record { status-is = refl; len-is = refl; says = says })

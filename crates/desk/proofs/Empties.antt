@@ -1,6 +1,6 @@
 -- A row is changed, and then the first records of its desk are removed: 0x32, 0x33 and 0x64. Assumes nothing.
 use Prim.Native.Nat.{ℕ, _+_, _%_, _<_}
-use mathlib.Core.Path.{_≡_, refl, sym, ap, _∙_}
+use mathlib.Core.Path.{_≡_, refl, ap, _∙_}
 use mathlib.Core.Bool.{true, false}
 use mathlib.Core.List.{List, []}
 use mathlib.Core.Option.{none}
@@ -33,7 +33,7 @@ use Rattle.desk.specs.declared.Reply.{Reply}
 use Rattle.desk.specs.Obeyed.{kept, Says, Quiet}
 use Rattle.desk.specs.Row.{closedRow, clearedRow, systemRow}
 use Rattle.desk.specs.Removal.{removedFrom}
-use Rattle.desk.proofs.Doing.{Flags, kept-is, row-size, row-flags, kept-legal, row-says, says-then}
+use Rattle.desk.proofs.Doing.{kept-is, row-size, row-flags, kept-legal, row-says, says-then}
 use Rattle.desk.proofs.Lengths.{closed-length, cleared-length, system-length}
 use Rattle.desk.proofs.Flagged.{closed-flags, cleared-flags, system-flags}
 use Rattle.desk.proofs.Meaning.{noneHeld, closed-means, cleared-means, system-means}

@@ -1,8 +1,8 @@
 -- The entries of a sound store, lent to the crate `table`: where they lie, what they are, and the store with those that came back. Assumes nothing.
 use Prim.Native.Nat.{ℕ, _+_, _-_, _*_, _≤_, _<_}
-use mathlib.Core.Path.{_≡_, refl, sym, ap, _∙_}
+use mathlib.Core.Path.{_≡_, ap, _∙_}
 use mathlib.Core.Bool.{true}
-use mathlib.Core.List.{List, [], _++_}
+use mathlib.Core.List.{List, _++_}
 use native.Mathlib.Nat.{add-zero}
 use native.Mathlib.Omega.{arith}
 use lib.Dec.{lit<}
@@ -18,7 +18,7 @@ use Rattle.table.specs.Entries.{recordWidth, width, desks, share, entryCount, e
 use Rattle.table.proofs.Changes.{remove-fewer, gather-size}
 use Rattle.table.proofs.Shares.{sharesKept-at}
 use Rattle.rules.specs.Records.{counted}
-use Rattle.store.specs.Layout.{storeSize, sizeOf, header, startOf, usedOf, area}
+use Rattle.store.specs.Layout.{storeSize, header, startOf, usedOf, area}
 use Rattle.store.specs.View.{inUse}
 use Rattle.store.specs.Sound.{sound, tableSound}
 use Rattle.store.proofs.Changes.{Sound, sound-facts, area-length}
@@ -31,9 +31,6 @@ in-use s = rw (areas-header s, areas-at s 2 (lit< tt))
 module _ (s : List ℕ) (e : sound s ≡ true) where
   facts : Sound s
   facts = sound-facts s e
-
-  pub store-length : length s ≡ storeSize
-  store-length = facts .size
 
   pub few-held : (d : ℕ) → d < desks → length (recordsOf d (inUse s)) ≤ share
   unfolding tableSound

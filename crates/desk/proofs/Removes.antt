@@ -1,19 +1,19 @@
 -- The first records of a desk are removed: the store says the desk with those left. Assumes nothing.
-use Prim.Native.Nat.{ℕ, _*_, _≤_, _<_}
-use mathlib.Core.Path.{_≡_, refl, sym, ap, _∙_}
+use Prim.Native.Nat.{ℕ, _<_}
+use mathlib.Core.Path.{_≡_, sym, ap, _∙_}
 use mathlib.Core.Bool.{true, _&&_}
-use mathlib.Core.List.{List, []}
+use mathlib.Core.List.{List}
 use native.Mathlib.Omega.{arith}
 use lib.Dec.{lit<}
 use lib.ListN.{length, drop}
 use Rattle.octets.specs.Parts.{put, concat}
 use Rattle.octets.proofs.Tests.{and-left, and-right}
 use Rattle.octets.proofs.Puts.{put-length}
-use Rattle.table.specs.Entries.{width, desks, entryCount, entries, recordsOf, without, ownersBelow, sharesKept}
+use Rattle.table.specs.Entries.{desks, entries, recordsOf, without, ownersBelow, sharesKept}
 use Rattle.table.proofs.Changes.{removed, remove-fewer, remove-owners, remove-shares, remove-own, remove-others}
 use Rattle.rules.specs.Desk.{Desk}
 use Rattle.rules.proofs.Facts.{DeskLegal}
-use Rattle.store.specs.Layout.{sizeOf, header, startOf, usedOf, area, areas, rowOf, recounted}
+use Rattle.store.specs.Layout.{header, usedOf, area, rowOf}
 use Rattle.store.specs.View.{deskIn, inUse}
 use Rattle.store.specs.Sound.{sound, tableSound}
 use Rattle.store.proofs.Changes.{Sound, sound-facts, area-length}

@@ -3,7 +3,6 @@ use Prim.Native.Nat.{ℕ, _+_, _*_, _<_, min}
 use mathlib.Core.Path.{_≡_, refl, sym, ap, _∙_}
 use mathlib.Core.Bool.{true, cond}
 use mathlib.Core.List.{List, [], _∷_, _++_}
-use mathlib.Core.Option.{none, some}
 use native.Mathlib.Omega.{arith}
 use borrow.Author.Tests.{eq-eqb, ne-eqb}
 use lib.Dec.{eqb, ltb}
@@ -19,11 +18,11 @@ use Rattle.table.specs.Entries.{recordWidth, desks, share, recordsOf}
 use Rattle.rules.specs.declared.Command.the-variants.{ReadRecords, SendTable}
 use Rattle.rules.specs.Desk.{Desk, withTable}
 use Rattle.rules.specs.Records.{mostSent, goes, readStatus, counted, sentTable}
-use Rattle.rules.specs.Command.{Result, ownTests, effect, result}
+use Rattle.rules.specs.Command.{ownTests, effect, result}
 use Rattle.rules.proofs.Facts.{DeskLegal}
 use Rattle.rules.proofs.Tables.{sent-legal}
 use Rattle.rules.proofs.Legality.{table-legal}
-use Rattle.store.specs.Layout.{rowWidth, rowAt, rowOf}
+use Rattle.store.specs.Layout.{rowAt, rowOf}
 use Rattle.store.specs.Rows.{field, fields}
 use Rattle.store.specs.View.{deskOf, deskIn, inUse}
 use Rattle.store.specs.Sound.{sound}
@@ -63,13 +62,13 @@ module _ (s : List ℕ) (e : sound s ≡ true) (d : ℕ) (h : d < desks) (kind :
   unfolding deskOf
   held-is = ap (λ (x : Desk). x .table .held) (kept-is s e d h)
 
-  pub table-told : (start n : ℕ) (one two three : List ℕ) → start ≡ getD row 457 0 → n ≡ length held → r ≡ record { status = 0; len = 6 }
-      → one ≡ put (dataAt kind) (octets 2 64) out → two ≡ put (dataAt kind + 2) (octets 2 start) one → three ≡ put (dataAt kind + 4) (octets 2 n) two
+  pub table-told : (to start n : ℕ) (one two three : List ℕ) → to ≡ dataAt kind → start ≡ getD row 457 0 → n ≡ length held → r ≡ record { status = 0; len = 6 }
+      → one ≡ put to (octets 2 64) out → two ≡ put (to + 2) (octets 2 start) one → three ≡ put (to + 4) (octets 2 n) two
       → Obeyed d kind (ruled SendTable kind (kept d s) body) r s s out three
   unfolding ownTests first effect octets
-  table-told start n one two three p q reply x y z =
+  table-told to start n one two three t p q reply x y z =
       told s e d h SendTable kind body r out three 0 (octets 2 share ++ octets 2 (kept d s .table .start) ++ octets 2 (length (kept d s .table .held))) reply refl refl
-      (rw (start-is, held-is, ← p, ← q) (three-put (dataAt kind) 64 start n out one two three x y z))
+      (rw (start-is, held-is, ← p, ← q, ← t) (three-put to 64 start n out one two three x y z))
 
   -- ---- 0x22
 
@@ -106,13 +105,14 @@ module _ (s : List ℕ) (e : sound s ≡ true) (d : ℕ) (h : d < desks) (kind :
           let after : DeskLegal (withTable (sentTable n (desk .table)) desk) = rw sent-is (table-legal desk legal _ (sent-legal kind (u16At 0 body) (desk .table) (legal .table))) in
           row-says s e d h (dueRow n row) _ (put-length 456 (n ∷ []) row ∙ row-size s e d h) (due-means row (row-size s e d h) held n) after (due-flags row (row-size s e d h) (row-flags s e d h) n)
 
-      pub records-told : (s′ out′ : List ℕ) → r ≡ record { status = status; len = 2 + recordWidth * n } → status ≡ cond (eqb (getD row 455 0) 1) 0x93 (cond (ltb n wanted) 0x94 0x00)
-          → s′ ≡ put (rowAt d s) (dueRow n row) s → out′ ≡ put (dataAt kind) (counted (take n held)) out
+      pub records-told : (to : ℕ) (s′ out′ : List ℕ) → to ≡ dataAt kind → r ≡ record { status = status; len = 2 + recordWidth * n }
+          → status ≡ cond (eqb (getD row 455 0) 1) 0x93 (cond (ltb n wanted) 0x94 0x00)
+          → s′ ≡ put (rowAt d s) (dueRow n row) s → out′ ≡ put to (counted (take n held)) out
           → Obeyed d kind (ruled ReadRecords kind (kept d s) body) r s s′ out out′
       unfolding result
-      records-told s′ out′ reply st store output =
+      records-told to s′ out′ t reply st store output =
           rw (ruled-is, reply, store)
           (record {
             done = record { status-is = st ∙ status-is; len-is = sym (counted-length s e d n (omega arith)); says = says };
-            out-is = output;
+            out-is = rw (← t) output;
           })

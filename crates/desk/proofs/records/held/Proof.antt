@@ -7,15 +7,16 @@ use borrow.Author.Needs.{needs}
 use lib.Dec.{lit<}
 use lib.ListN.{length}
 use Rattle.table.specs.Entries.{recordsOf}
-use Rattle.desk.proofs.LentTable.{store-length, few-held, table-inside, table-fits, table-lent}
+use Rattle.desk.proofs.LentRow.{sound-size}
+use Rattle.desk.proofs.LentTable.{few-held, table-inside, table-fits, table-lent}
 use Rattle.desk.proofs.records.held.Statement.{statement}
 use Rattle.desk.proofs.records.held.Tie as tie
 
 start-requires : tie.Need-start-requires
-start-requires c κs = (lit< tt, omega (arith, store-length _ (c .before .pre .0)))
+start-requires c κs = (lit< tt, omega (arith, sound-size _ (c .before .pre .0)))
 
 used-requires : tie.Need-used-requires
-used-requires c κs = omega (arith, store-length _ (c .before .before .pre .0))
+used-requires c κs = omega (arith, sound-size _ (c .before .before .pre .0))
 
 part-held-end : tie.Need-part-held-end
 part-held-end c = omega (arith, table-inside _ (c .before .before .before .pre .0) _ _ (c .before .start .ensures .0) (c .used .ensures .0))

@@ -3,15 +3,16 @@ use mathlib.Core.Path.{_∙_}
 use native.Mathlib.Omega.{arith}
 use borrow.Author.Needs.{needs}
 use lib.Dec.{lit<}
-use Rattle.desk.proofs.LentTable.{store-length, table-inside, table-fits, fewer-left, back-length, removed-back}
+use Rattle.desk.proofs.LentRow.{sound-size}
+use Rattle.desk.proofs.LentTable.{table-inside, table-fits, fewer-left, back-length, removed-back}
 use Rattle.desk.proofs.records.remove_first.Statement.{statement}
 use Rattle.desk.proofs.records.remove_first.Tie as tie
 
 start-requires : tie.Need-start-requires
-start-requires c κs = (lit< tt, omega (arith, store-length _ (c .before .before .pre .0)))
+start-requires c κs = (lit< tt, omega (arith, sound-size _ (c .before .before .pre .0)))
 
 used-requires : tie.Need-used-requires
-used-requires c κs = omega (arith, store-length _ (c .before .before .before .before .pre .0))
+used-requires c κs = omega (arith, sound-size _ (c .before .before .before .before .pre .0))
 
 part-remove-end : tie.Need-part-remove-end
 part-remove-end c =

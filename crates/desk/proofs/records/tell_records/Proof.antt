@@ -5,15 +5,16 @@ use borrow.Author.Needs.{needs}
 use lib.Dec.{lit<}
 use lib.ListN.{length, length-take, length-drop}
 use Rattle.octets.proofs.Puts.{put-length}
-use Rattle.desk.proofs.LentTable.{store-length, table-inside, table-fits, counted-back}
+use Rattle.desk.proofs.LentRow.{sound-size}
+use Rattle.desk.proofs.LentTable.{table-inside, table-fits, counted-back}
 use Rattle.desk.proofs.records.tell_records.Statement.{statement}
 use Rattle.desk.proofs.records.tell_records.Tie as tie
 
 start-requires : tie.Need-start-requires
-start-requires c κs = (lit< tt, omega (arith, store-length _ (c .before .before .before .before .before .before .pre .0)))
+start-requires c κs = (lit< tt, omega (arith, sound-size _ (c .before .before .before .before .before .before .pre .0)))
 
 used-requires : tie.Need-used-requires
-used-requires c κs = omega (arith, store-length _ (c .before .before .before .before .before .before .before .pre .0))
+used-requires c κs = omega (arith, sound-size _ (c .before .before .before .before .before .before .before .pre .0))
 
 part-gather-end : tie.Need-part-gather-end
 part-gather-end c =
