@@ -18,8 +18,10 @@ use Rattle.locks.proofs.Stored.{locks-octets-length}
 use Rattle.rules.specs.Config.{defaults}
 use Rattle.store.specs.Layout.{rowWidth}
 use Rattle.store.specs.Rows.{field}
-use Rattle.desk.specs.Row.{one, loginRow, markedRow, dueRow, closedRow, timerRow, memoryAt, writtenRow, unlockedRow, locksRow, loadedRow, validRow, restartedRow}
+use Rattle.desk.specs.Row.{one, loginRow, markedRow, dueRow, closedRow, timerRow, memoryAt, writtenRow, midnightRow, savedRow, allSavedRow, unlockedRow, locksRow, loadedRow, validRow, restartedRow, defaultRow, clearedRow, systemRow}
+use Rattle.rules.proofs.Memories.{defaults-legal}
 use Rattle.desk.proofs.Doing.{Flags}
+use Rattle.desk.proofs.Lengths.{login-length, closed-length, restarted-length}
 
 -- a write elsewhere
 pub flags-away : (at : ℕ) (xs row : List ℕ) → Flags row → Apart at (length xs) 450 1 → Apart at (length xs) 455 1 → Flags (put at xs row)
@@ -86,6 +88,23 @@ module _ (row : List ℕ) (l : length row ≡ rowWidth) (f : Flags row) where
   pub locks-flags : (ls : List Lock) → Flags (locksRow ls row)
   locks-flags ls = flags-behind 458 (length ls ∷ []) _ (flags-behind 459 (locksOctets ls) row f (lit≤ tt)) (lit≤ tt)
 
+  pub saved-flags : (k : ℕ) → k < 16 → Flags (savedRow k row)
+  unfolding savedRow
+  saved-flags k h = written-flags true k (part (14 * k) 14 row) h (part-length (14 * k) 14 row (omega arith))
+
+  pub all-saved-flags : Flags (allSavedRow row)
+  unfolding allSavedRow
+  all-saved-flags = flags-before 224 (part 0 224 row) row f (omega (arith, part-length 0 224 row (omega arith)))
+
+  pub default-flags : (eeprom : Bool) → Flags (defaultRow eeprom row)
+  unfolding defaultRow
+  default-flags true = flags-before 224 defaults row f (omega (arith, defaults-legal .size))
+  default-flags false = flags-before 0 defaults row f (omega (arith, defaults-legal .size))
+
+  pub cleared-flags : Flags (clearedRow row)
+  unfolding clearedRow unlockedRow
+  cleared-flags = flags-behind 458 (0 ∷ []) (closedRow 0 row) (closed-flags 0) (lit≤ tt)
+
   loaded-flags : Flags (loadedRow row)
   unfolding loadedRow
   loaded-flags = flags-before 0 (part 224 224 row) row f (omega (arith, part-length 224 224 row (omega arith)))
@@ -93,10 +112,6 @@ module _ (row : List ℕ) (l : length row ≡ rowWidth) (f : Flags row) where
 loaded-length : (row : List ℕ) → length (loadedRow row) ≡ length row
 unfolding loadedRow
 loaded-length row = put-length 0 (part 224 224 row) row
-
-login-length : (b : Bool) (row : List ℕ) → length (loginRow b row) ≡ length row
-unfolding loginRow
-login-length b row = put-length 450 (cond b 1 0 ∷ []) row
 
 pub restarted-flags : (row : List ℕ) → length row ≡ rowWidth → Flags row → Flags (restartedRow row)
 unfolding restartedRow validRow
@@ -109,3 +124,10 @@ restarted-flags row l f =
     let lc : length c ≡ rowWidth = login-length false b ∙ lb in
     let fb : Flags b = flags-before 448 (part 392 2 a) a (loaded-flags row l f) (omega (arith, part-length 392 2 a (omega arith))) in
     unlocked-flags c lc (login-flags b lb fb false)
+
+pub system-flags : (row : List ℕ) → length row ≡ rowWidth → Flags row → Flags (systemRow row)
+unfolding systemRow midnightRow
+system-flags row l f =
+    let a = restartedRow row in
+    let la : length a ≡ rowWidth = restarted-length row ∙ l in
+    timer-flags (closedRow 0 a) (closed-length 0 a ∙ la) (closed-flags a la (restarted-flags row l f) 0) (replicate 4 0) refl

@@ -21,16 +21,18 @@ use Rattle.locks.specs.declared.Lock.{Lock}
 use Rattle.locks.specs.Locks.{added, sweptOf, locksIn, locksOctets}
 use Rattle.locks.proofs.Stored.{LockFits, locks-octets-length, locks-put, locks-in-fit}
 use Rattle.locks.proofs.Sound.{added-fit, swept-fit}
-use Rattle.rules.specs.Config.{blockAt, written, validOf}
-use Rattle.rules.specs.Desk.{Desk, memoryOf, withMemory, withLogin, withTimer, withLocks, withTable, restarted}
+use Rattle.rules.specs.Config.{blockAt, written, validOf, defaults}
+use Rattle.rules.specs.Desk.{Desk, Table, memoryOf, withMemory, withLogin, withTimer, withLocks, withTable, restarted}
 use Rattle.rules.specs.Records.{marked, withRecord, sentTable}
 use Rattle.rules.specs.Sighting.{ticked}
+use Rattle.rules.proofs.Memories.{defaults-legal}
 use Rattle.store.specs.Layout.{rowWidth}
 use Rattle.store.specs.Rows.{fieldAt, fieldSize, field, fields}
 use Rattle.store.specs.View.{deskOf, deskIn}
 use Rattle.store.proofs.Fields.{fields-into, fields-over, field-length}
-use Rattle.desk.specs.Row.{loginRow, markedRow, dueRow, closedRow, timerRow, midnightRow, writtenRow, savedRow, allSavedRow, unlockedRow, locksOf, locksRow, lockedRow, sweptRow, steppedRow, tickedRow, loadedRow, validRow, restartedRow}
+use Rattle.desk.specs.Row.{loginRow, markedRow, dueRow, closedRow, timerRow, midnightRow, writtenRow, savedRow, allSavedRow, unlockedRow, locksOf, locksRow, lockedRow, sweptRow, steppedRow, tickedRow, loadedRow, validRow, restartedRow, defaultRow, clearedRow, systemRow}
 use Rattle.desk.proofs.Lent.{swept-few, locked-few}
+use Rattle.desk.proofs.Lengths.{closed-length, restarted-length}
 
 -- a put keeps the row's length
 kept : (at : ℕ) (xs row : List ℕ) → length row ≡ rowWidth → length (put at xs row) ≡ rowWidth
@@ -103,6 +105,11 @@ module _ (row : List ℕ) (size : length row ≡ rowWidth) (rs : List (List ℕ)
   unfolding allSavedRow deskOf fields field upto withMemory
   all-saved-means = over 1 (part 0 224 row) (lit< tt) (part-length 0 224 row (omega arith))
 
+  pub default-means : (eeprom : Bool) → deskIn (defaultRow eeprom row) rs ≡ withMemory eeprom defaults (deskIn row rs)
+  unfolding defaultRow deskOf fields upto withMemory
+  default-means true = over 1 defaults (lit< tt) (defaults-legal .size)
+  default-means false = over 0 defaults (lit< tt) (defaults-legal .size)
+
   loaded-means : deskIn (loadedRow row) rs ≡ withMemory false (deskIn row rs .eeprom) (deskIn row rs)
   unfolding loadedRow deskOf fields field upto withMemory
   loaded-means = over 0 (part 224 224 row) (lit< tt) (part-length 224 224 row (omega arith))
@@ -147,6 +154,24 @@ module _ (row : List ℕ) (size : length row ≡ rowWidth) (rs : List (List ℕ)
       ∙ ap (withLocks []) (login-means two m rs false
       ∙ ap (withLogin false) (valid-means one l rs
       ∙ ap (λ (d : Desk). withValid (validOf (d .eeprom)) d) (loaded-means row size rs)))
+
+-- what is left where all records go
+abbrev pub noneHeld : List (List ℕ) → Table
+noneHeld rs = record { held = rs; overflow = false; due = 0; start = 0 }
+
+module _ (row : List ℕ) (size : length row ≡ rowWidth) (rs : List (List ℕ)) where
+  pub cleared-means : deskIn (clearedRow row) rs ≡ withLocks [] (withTable (noneHeld rs) (deskIn row rs))
+  unfolding clearedRow
+  cleared-means =
+      unlocked-means (closedRow 0 row) (closed-length 0 row ∙ size) rs ∙ ap (withLocks []) (closed-means row size rs 0 rs)
+
+  pub system-means : deskIn (systemRow row) rs ≡ withTimer midnight (withTable (noneHeld rs) (restarted (deskIn row rs)))
+  unfolding systemRow
+  system-means =
+      let one : List ℕ = restartedRow row in
+      let l : length one ≡ rowWidth = restarted-length row ∙ size in
+      midnight-means (closedRow 0 one) (closed-length 0 one ∙ l) rs
+      ∙ ap (withTimer midnight) (closed-means one l rs 0 rs ∙ ap (withTable (noneHeld rs)) (restarted-means row size rs))
 
 -- ---- the locks and the timer
 

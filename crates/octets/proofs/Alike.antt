@@ -1,6 +1,6 @@
 -- The test that two lists are equal. Assumes nothing.
 use Prim.Native.Nat.{ℕ}
-use mathlib.Core.Path.{_≡_, refl, ap₂}
+use mathlib.Core.Path.{_≡_, refl, sym, ap, ap₂, _∙_}
 use mathlib.Core.List.{List, [], _∷_}
 use mathlib.Core.Bool.{Bool, true, false, false≢true}
 use lib.Dec.{eqb}
@@ -28,3 +28,11 @@ alike-ne xs ys n = go (alike xs ys) refl
     go : (b : Bool) → alike xs ys ≡ b → b ≡ false
     go true e = absurd (n (alike-true xs ys e))
     go false e = refl
+
+pub alike-comm : (xs ys : List ℕ) → alike xs ys ≡ alike ys xs
+alike-comm xs ys = go (alike xs ys) (alike ys xs) refl refl
+  where
+    go : (a b : Bool) → alike xs ys ≡ a → alike ys xs ≡ b → a ≡ b
+    go true b e f = sym (alike-refl xs) ∙ ap (λ (l : List ℕ). alike l xs) (alike-true xs ys e) ∙ f
+    go false true e f = sym e ∙ ap (alike xs) (alike-true ys xs f) ∙ alike-refl xs
+    go false false e f = refl

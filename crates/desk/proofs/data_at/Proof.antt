@@ -1,21 +1,26 @@
+-- `desk::data_at` meets its contract: at most three octets of lead. Assumes nothing.
+use Prim.Native.Nat.{_≤_}
+use native.Mathlib.Omega.{arith}
 use borrow.Author.Needs.{needs}
+use lib.Dec.{lit≤}
+use Rattle.frame.specs.declared.Kind.{Kind}
+use Rattle.frame.specs.declared.Kind.the-variants.{Standard, Advanced}
+use Rattle.frame.specs.Shape.{shapeOf}
 use Rattle.desk.proofs.data_at.Statement.{statement}
 use Rattle.desk.proofs.data_at.Tie as tie
-use Rattle.desk.proofs.data_at.Reads as reads
-use Rattle.desk.proofs.data_at.Lts as lts
-use Rattle.frame.proofs.Kind.shape.Reads as shape-reads
 
--- src/lib.rt:32:5
+short : (k : Kind) → shapeOf k .lead ≤ 3
+short Standard = lit≤ tt
+short Advanced = lit≤ tt
+
 shape-requires : tie.Need-shape-requires
 shape-requires c κs = search needs
 
--- src/lib.rt:32:5
 add-result : tie.Need-add-result
-add-result c = ?
+add-result c = rw (c .before .shape .ensures) (omega (arith, short (c .before .before .args .kind)))
 
--- src/lib.rt:29:1
 returns : tie.Need-returns
-returns c = ?
+returns c = (rw (c .before .shape .ensures), rw (c .before .shape .ensures) (omega (arith, short (c .before .before .args .kind))))
 
 pub data-at-spec : {M : Type 1} → statement M
 data-at-spec = tie.close (tie.spec shape-requires add-result returns)

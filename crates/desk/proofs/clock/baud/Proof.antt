@@ -1,30 +1,31 @@
+-- `desk::clock::baud` meets its contract. Assumes nothing.
+use mathlib.Core.Path.{refl}
+use lib.ListN.{getD}
 use borrow.Author.Needs.{needs}
+use borrow.Author.Tests.{eq-eqb, ne-eqb}
+use Rattle.octets.specs.Tests.{first}
+use Rattle.rules.specs.declared.Command.the-variants.{Baud}
+use Rattle.rules.specs.Command.{ownTests, done, effect}
+use Rattle.desk.proofs.Answers.{refused, granted}
 use Rattle.desk.proofs.clock.baud.Statement.{statement}
 use Rattle.desk.proofs.clock.baud.Tie as tie
-use Rattle.desk.proofs.clock.baud.Reads as reads
-use Rattle.desk.proofs.clock.baud.Lts as lts
-use Rattle.desk.proofs.plain.Reads as plain-reads
 
--- src/clock.rt:20:8
-shared-slice-read-if1 : tie.Need-shared-slice-read-if1
-shared-slice-read-if1 c = search needs
-
--- src/clock.rt:21:9
-plain-requires : tie.Need-plain-requires
-plain-requires c κs = search needs
-
--- src/clock.rt:21:9
 returns : tie.Need-returns
-returns c = ?
+unfolding first ownTests
+returns c =
+    let z = c .before .before .before .before .before in
+    let body = z .args .body .now in
+    refused (z .args .s .now) (z .pre .0) (z .args .d) (z .pre .1) Baud body 0x11 (c .plain .result) (c .plain .ensures)
+    (rw (ne-eqb (getD body 0 0) 0 (c .before .if1 .taken)))
 
--- src/clock.rt:23:5
-plain-requires-2 : tie.Need-plain-requires-2
-plain-requires-2 c κs = search needs
-
--- src/clock.rt:16:1
 returns-2 : tie.Need-returns-2
-returns-2 c = ?
+unfolding first ownTests effect done
+returns-2 c =
+    let z = c .before .before .before .before .before in
+    let body = z .args .body .now in
+    granted (z .args .s .now) (z .pre .0) (z .args .d) (z .pre .1) Baud body 0 (c .plain2 .result) (c .plain2 .ensures)
+    (rw (eq-eqb (getD body 0 0) 0 (c .before .if1 .left))) (λ kind. refl)
 
 pub baud-spec : {M : Type 1} → statement M
 baud-spec =
-    tie.close (tie.spec shared-slice-read-if1 plain-requires returns plain-requires-2 returns-2)
+    tie.close (tie.spec (λ c. search needs) (λ c κs. search needs) returns (λ c κs. search needs) returns-2)

@@ -1,63 +1,60 @@
+-- `desk::clock::send_timer` meets its contract: the four octets of the timer, where the row has them. Assumes nothing.
+use mathlib.Core.Path.{refl, ap, _∙_}
+use mathlib.Core.List.{List}
+use Prim.Native.Nat.{ℕ}
+use native.Mathlib.Omega.{arith}
 use borrow.Author.Needs.{needs}
+use Rattle.octets.specs.Tests.{first}
+use Rattle.octets.specs.Parts.{put}
+use Rattle.timer.specs.Clock.{timerOctets}
+use Rattle.timer.proofs.ReadBack.{timer-length}
+use Rattle.rules.specs.declared.Command.the-variants.{SendTimer}
+use Rattle.rules.specs.Command.{ownTests, effect}
+use Rattle.desk.specs.Obeyed.{kept, dataAt}
+use Rattle.desk.proofs.LentRow.{sound-size, lent-inside}
+use Rattle.desk.proofs.Told.{timer-told}
+use Rattle.desk.proofs.Answers.{told}
 use Rattle.desk.proofs.clock.send_timer.Statement.{statement}
 use Rattle.desk.proofs.clock.send_timer.Tie as tie
-use Rattle.desk.proofs.clock.send_timer.Reads as reads
-use Rattle.desk.proofs.clock.send_timer.Lts as lts
-use Rattle.desk.proofs.data_at.Reads as data-at-reads
-use Rattle.octets.proofs.copy_to.Reads as copy-to-reads
-use Rattle.store.proofs.row_at.Reads as row-at-reads
 
--- src/clock.rt:54:14
 row-at-requires : tie.Need-row-at-requires
-row-at-requires c κs = ?
+row-at-requires c κs =
+    let z = c .before .before .before in
+    (z .pre .1, omega (arith, sound-size (z .args .s .now) (z .pre .0)))
 
--- src/clock.rt:54:14
-add-at : tie.Need-add-at
-add-at c = search needs
-
--- src/clock.rt:55:26
-data-at-requires : tie.Need-data-at-requires
-data-at-requires c κs = search needs
-
--- src/clock.rt:55:48
-add-copy-to : tie.Need-add-copy-to
-add-copy-to c = search needs
-
--- src/clock.rt:55:41
-sub-copy-to : tie.Need-sub-copy-to
-sub-copy-to c = search needs
-
--- src/clock.rt:55:41
-part-copy-to-start : tie.Need-part-copy-to-start
-part-copy-to-start c = search needs
-
--- src/clock.rt:55:41
 part-copy-to-end : tie.Need-part-copy-to-end
-part-copy-to-end c = ?
+part-copy-to-end c =
+    let z = c .before .before .before .before .before .before in
+    let at = c .before .before .row-at in
+    omega (arith, lent-inside (z .args .s .now) (z .pre .0) (z .args .d) (z .pre .1) (at .result) (at .ensures .0))
 
--- src/clock.rt:55:5
-copy-to-requires : tie.Need-copy-to-requires
-copy-to-requires c κs = search needs
-
--- src/clock.rt:50:1
-same-length : tie.Need-same-length
-same-length c = search needs
-
--- src/clock.rt:50:1
 returns : tie.Need-returns
-returns c = ?
+unfolding first ownTests effect
+returns c =
+    let copied = c .before .before .copy-to in
+    let place = c .before .before .before .before .data-at in
+    let at = c .before .before .before .before .before .before .row-at in
+    let z = c .before .before .before .before .before .before .before .before .before .before in
+    let s = z .args .s .now in
+    let d = z .args .d in
+    let e = z .pre .0 in
+    let h = z .pre .1 in
+    let out = z .args .out .now in
+    let sent = timerOctets (kept d s .timer) in
+    told s e d h SendTimer (z .args .kind) (z .args .body .now) _ out _ 0 sent (rw (timer-length (kept d s .timer))) refl refl
+    (copied .ensures ∙ rw (place .ensures .0, timer-told s e d h (at .result) (at .ensures .0) (λ i. c .before .before .before .before .before .before .before .before .before .shared-slice-known .given i .fits)))
 
 pub send-timer-spec : {M : Type 1} → statement M
 send-timer-spec =
     tie.close
     (tie.spec
     row-at-requires
-    add-at
-    data-at-requires
-    add-copy-to
-    sub-copy-to
-    part-copy-to-start
+    (λ c. search needs)
+    (λ c κs. search needs)
+    (λ c. search needs)
+    (λ c. search needs)
+    (λ c. search needs)
     part-copy-to-end
-    copy-to-requires
-    same-length
+    (λ c κs. search needs)
+    (λ c. search needs)
     returns)

@@ -1,64 +1,66 @@
+-- `desk::records::clear` meets its contract. Assumes nothing.
+use mathlib.Core.Path.{_≡_, ap, _∙_}
+use mathlib.Core.List.{_++_}
+use native.Mathlib.Omega.{arith}
 use borrow.Author.Needs.{needs}
+use Prim.Native.Nat.{_+_, _-_}
+use lib.ListN.{length, take, drop}
+use Rattle.octets.specs.Parts.{put}
+use Rattle.store.specs.Layout.{rowWidth, rowAt, rowOf}
+use Rattle.desk.specs.Row.{clearedRow}
+use Rattle.desk.proofs.Lengths.{cleared-length}
+use Rattle.desk.proofs.LentRow.{sound-size, lent-inside, lent-done}
+use Rattle.desk.proofs.Empties.{clearing, cleared-done}
 use Rattle.desk.proofs.records.clear.Statement.{statement}
 use Rattle.desk.proofs.records.clear.Tie as tie
-use Rattle.desk.proofs.records.clear.Reads as reads
-use Rattle.desk.proofs.records.clear.Lts as lts
-use Rattle.desk.proofs.plain.Reads as plain-reads
-use Rattle.desk.proofs.records.remove_first.Reads as remove-first-reads
-use Rattle.desk.proofs.row.clear.Reads as clear-reads
-use Rattle.store.proofs.row_at.Reads as row-at-reads
 
--- src/records.rt:136:9
 row-at-requires : tie.Need-row-at-requires
-row-at-requires c κs = ?
+row-at-requires c κs =
+    let z = c .before .before .before in
+    (z .pre .1, omega (arith, sound-size _ (z .pre .0)))
 
--- src/records.rt:137:27
-add-clear : tie.Need-add-clear
-add-clear c = search needs
+part-end : tie.Need-part-clear-end
+part-end c =
+    let z = c .before .before .before .before in
+    omega (arith, lent-inside _ (z .pre .0) _ (z .pre .1) _ (c .row-at .ensures .0))
 
--- src/records.rt:137:16
-sub-clear : tie.Need-sub-clear
-sub-clear c = search needs
+-- the store after the row
+changed : (c : tie.After-clear) → let a = c .before .before in
+    let at = a .row-at .result in
+    let z = a .before .before .before .before in
+    let s = z .args .s .now in
+    take at s ++ (c .clear .last .0 ++ drop (at + rowWidth - at) (drop at s)) ≡ put (rowAt (z .args .d) s) (clearedRow (rowOf (z .args .d) s)) s
+changed c =
+    let a = c .before .before in
+    let z = a .before .before .before .before in
+    lent-done _ (z .pre .0) _ (z .pre .1) _ (a .row-at .ensures .0) clearedRow _ (ap length (c .clear .ensures) ∙ cleared-length _) (c .clear .ensures)
 
--- src/records.rt:137:16
-part-clear-start : tie.Need-part-clear-start
-part-clear-start c = search needs
-
--- src/records.rt:137:16
-part-clear-end : tie.Need-part-clear-end
-part-clear-end c = ?
-
--- src/records.rt:137:5
-clear-requires : tie.Need-clear-requires
-clear-requires c κs = search needs
-
--- src/records.rt:138:5
 remove-first-requires : tie.Need-remove-first-requires
-remove-first-requires c κs = ?
+remove-first-requires c κs =
+    let k = c .before .before .before in
+    let z₁ = k .before .before .before .before .before in
+    let z = z₁ .before in
+    (rw (changed k) (clearing _ (z .pre .0) _ (z .pre .1) (λ i. z₁ .slice-known .given i .fits) .still), z .pre .1)
 
--- src/records.rt:139:5
-plain-requires : tie.Need-plain-requires
-plain-requires c κs = search needs
-
--- src/records.rt:132:1
-same-length : tie.Need-same-length
-same-length c = search needs
-
--- src/records.rt:132:1
 returns : tie.Need-returns
-returns c = ?
+returns c =
+    let f = c .before .before .before in
+    let k = f .before .before .before .before in
+    let z₁ = k .before .before .before .before .before in
+    let z = z₁ .before in
+    rw (f .remove-first .ensures, changed k) (cleared-done _ (z .pre .0) _ (z .pre .1) (λ i. z₁ .slice-known .given i .fits) _ (c .plain .ensures) _)
 
 pub clear-spec : {M : Type 1} → statement M
 clear-spec =
     tie.close
     (tie.spec
     row-at-requires
-    add-clear
-    sub-clear
-    part-clear-start
-    part-clear-end
-    clear-requires
+    (λ c. search needs)
+    (λ c. search needs)
+    (λ c. search needs)
+    part-end
+    (λ c κs. search needs)
     remove-first-requires
-    plain-requires
-    same-length
+    (λ c κs. search needs)
+    (λ c. search needs)
     returns)

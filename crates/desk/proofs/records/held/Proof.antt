@@ -1,45 +1,38 @@
 -- `desk::records::held` meets its contract. Assumes nothing.
-use mathlib.Core.Path.{_≡_}
+use mathlib.Core.Path.{ap, _∙_}
+use mathlib.Core.List.{List}
+use Prim.Native.Nat.{ℕ}
 use native.Mathlib.Omega.{arith}
-use lib.Dec.{lit<}
-use lib.ListN.{length, length-take, length-drop}
-use Rattle.octets.proofs.Tests.{and-right}
-use Rattle.table.specs.Entries.{desks, recordsOf, ownersBelow, sharesKept}
-use Rattle.table.proofs.Shares.{sharesKept-at}
-use Rattle.store.specs.View.{inUse}
-use Rattle.store.specs.Sound.{tableSound}
-use Rattle.store.proofs.Changes.{sound-facts}
-use Rattle.store.proofs.LentAreas.{entries-lent}
 use borrow.Author.Needs.{needs}
+use lib.Dec.{lit<}
+use lib.ListN.{length}
+use Rattle.table.specs.Entries.{recordsOf}
+use Rattle.desk.proofs.LentRow.{sound-size}
+use Rattle.desk.proofs.LentTable.{few-held, table-inside, table-fits, table-lent}
 use Rattle.desk.proofs.records.held.Statement.{statement}
 use Rattle.desk.proofs.records.held.Tie as tie
 
 start-requires : tie.Need-start-requires
-start-requires c κs = (lit< tt, omega (arith, sound-facts _ (c .before .pre .0) .size))
+start-requires c κs = (lit< tt, omega (arith, sound-size _ (c .before .pre .0)))
 
 used-requires : tie.Need-used-requires
-used-requires c κs = omega (arith, sound-facts _ (c .before .before .pre .0) .size)
+used-requires c κs = omega (arith, sound-size _ (c .before .before .pre .0))
 
 part-held-end : tie.Need-part-held-end
-part-held-end c =
-    let f = sound-facts _ (c .before .before .before .pre .0) in
-    omega (arith, f .size, f .head .within 2 (lit< tt))
+part-held-end c = omega (arith, table-inside _ (c .before .before .before .pre .0) _ _ (c .before .start .ensures .0) (c .used .ensures .0))
 
 held-requires : tie.Need-held-requires
 held-requires c κs =
-    let f = sound-facts _ (c .before .before .before .before .pre .0) in
-    simp (length-take, length-drop) (omega (arith, f .size, f .head .within 2 (lit< tt), f .head .used))
+    let u = c .before in
+    table-fits _ (u .before .before .before .pre .0) _ _ (u .before .start .ensures .0) (u .used .ensures .0)
 
 returns : tie.Need-returns
-unfolding tableSound
 returns c =
     let u = c .before .before in
     let z = u .before .before .before in
-    let e : c .held .result ≡ length (recordsOf (z .args .d) (inUse (z .args .s .now))) =
-    rw (entries-lent (z .args .s .now) _ _ (u .before .start .ensures .0) (u .used .ensures .0)) at (c .held .ensures)
-    in
-    let es = inUse (z .args .s .now) in
-    (e, omega (arith, e, sharesKept-at es (z .args .d) (and-right (ownersBelow desks es) (sharesKept es) (sound-facts (z .args .s .now) (z .pre .0) .table)) (z .pre .1)))
+    let s = z .args .s .now in
+    let r = c .held .ensures ∙ ap (λ (es : List (List ℕ)). length (recordsOf (z .args .d) es)) (table-lent s (z .pre .0) _ _ (u .before .start .ensures .0) (u .used .ensures .0)) in
+    (r, omega (arith, r, few-held s (z .pre .0) (z .args .d) (z .pre .1)))
 
 pub held-spec : {M : Type 1} → statement M
 held-spec =

@@ -1,31 +1,40 @@
+-- `desk::records::most_sent` meets its contract: by the numbers of each kind. Assumes nothing.
+use Prim.Native.Nat.{_-_, _/_, _≤_}
+use mathlib.Core.Path.{_≡_, refl}
+use lib.Dec.{lit≤}
 use borrow.Author.Needs.{needs}
+use Rattle.frame.specs.declared.Kind.{Kind}
+use Rattle.frame.specs.declared.Kind.the-variants.{Standard, Advanced}
+use Rattle.frame.specs.declared.Way.the-variants.{Request}
+use Rattle.frame.specs.Shape.{shapeOf, overhead}
+use Rattle.rules.specs.Records.{mostSent}
 use Rattle.desk.proofs.records.most_sent.Statement.{statement}
 use Rattle.desk.proofs.records.most_sent.Tie as tie
-use Rattle.desk.proofs.records.most_sent.Reads as reads
-use Rattle.desk.proofs.records.most_sent.Lts as lts
-use Rattle.frame.proofs.Kind.longest.Reads as longest-reads
-use Rattle.frame.proofs.Kind.overhead.Reads as overhead-reads
 
--- src/records.rt:46:6
-longest-requires : tie.Need-longest-requires
-longest-requires c κs = search needs
+-- what a reply has beside its records
+record Room (kind : Kind) : Type 0 where
+  over : overhead Request kind ≤ shapeOf kind .longest
+  more : 3 ≤ shapeOf kind .longest - overhead Request kind
+  same : (shapeOf kind .longest - overhead Request kind - 3) / 13 ≡ mostSent kind
+  few : (shapeOf kind .longest - overhead Request kind - 3) / 13 ≤ 64
 
--- src/records.rt:46:23
-overhead-requires : tie.Need-overhead-requires
-overhead-requires c κs = search needs
+room : (kind : Kind) → Room kind
+unfolding mostSent
+room Standard = record { over = lit≤ tt; more = lit≤ tt; same = refl; few = lit≤ tt }
+room Advanced = record { over = lit≤ tt; more = lit≤ tt; same = refl; few = lit≤ tt }
 
--- src/records.rt:46:6
 sub-result : tie.Need-sub-result
-sub-result c = ?
+sub-result c = rw (c .before .longest .ensures, c .overhead .ensures) (room (c .before .before .args .kind) .over)
 
--- src/records.rt:46:6
 sub-result-2 : tie.Need-sub-result-2
-sub-result-2 c = ?
+sub-result-2 c = rw (c .before .longest .ensures, c .overhead .ensures) (room (c .before .before .args .kind) .more)
 
--- src/records.rt:43:1
 returns : tie.Need-returns
-returns c = ?
+returns c =
+    let r = room (c .before .before .args .kind) in
+    rw (c .before .longest .ensures, c .overhead .ensures) (r .same, r .few)
 
 pub most-sent-spec : {M : Type 1} → statement M
 most-sent-spec =
-    tie.close (tie.spec longest-requires overhead-requires sub-result sub-result-2 returns)
+    tie.close
+    (tie.spec (λ c κs. search needs) (λ c κs. search needs) sub-result sub-result-2 returns)

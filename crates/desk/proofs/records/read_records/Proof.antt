@@ -1,160 +1,109 @@
+-- `desk::records::read_records` meets its contract. Assumes nothing.
+use Prim.Native.Nat.{_+_, _≤_}
+use mathlib.Core.Path.{_≡_, refl, sym, ap, _∙_}
+use native.Mathlib.Omega.{arith}
 use borrow.Author.Needs.{needs}
+use lib.Dec.{lit<}
+use lib.ListN.{length}
+use Rattle.octets.specs.Numbers.{u16At}
+use Rattle.octets.proofs.Puts.{put-length}
+use Rattle.store.specs.Layout.{rowWidth}
+use Rattle.desk.specs.Row.{dueRow}
+use Rattle.desk.proofs.LentRow.{sound-size, lent-inside, lent-done}
+use Rattle.desk.proofs.RowOctets.{row-octet}
+use Rattle.desk.proofs.TellsRecords.{none-asked, none-held, records-told}
 use Rattle.desk.proofs.records.read_records.Statement.{statement}
 use Rattle.desk.proofs.records.read_records.Tie as tie
-use Rattle.desk.proofs.records.read_records.Reads as reads
-use Rattle.desk.proofs.records.read_records.Lts as lts
-use Rattle.desk.proofs.data_at.Reads as data-at-reads
-use Rattle.desk.proofs.plain.Reads as plain-reads
-use Rattle.desk.proofs.records.held.Reads as held-reads
-use Rattle.desk.proofs.records.least.Reads as least-reads
-use Rattle.desk.proofs.records.most_sent.Reads as most-sent-reads
-use Rattle.desk.proofs.records.status_of.Reads as status-of-reads
-use Rattle.desk.proofs.records.tell_records.Reads as tell-records-reads
-use Rattle.desk.proofs.row.set_due.Reads as set-due-reads
-use Rattle.octets.proofs.get16.Reads as get16-reads
-use Rattle.store.proofs.row_at.Reads as row-at-reads
 
--- src/records.rt:85:17
-get16-requires : tie.Need-get16-requires
-get16-requires c κs = search needs
-
--- src/records.rt:85:17
-cast-asked : tie.Need-cast-asked
-cast-asked c = search needs
-
--- src/records.rt:87:9
-plain-requires : tie.Need-plain-requires
-plain-requires c κs = search needs
-
--- src/records.rt:87:9
 returns : tie.Need-returns
-returns c = ?
+returns c =
+    let g = c .before .before in
+    let z = g .before .before .before .before in
+    none-asked _ (z .pre .0) _ (z .pre .1) _ _ _ _ _ (sym (g .get16 .ensures) ∙ c .before .if1 .taken) (c .plain .ensures) refl
 
--- src/records.rt:89:9
-held-requires : tie.Need-held-requires
-held-requires c κs = search needs
+-- some are asked for
+asked : (c : tie.Else1) → u16At 0 (c .before .before .before .before .before .args .body .now) ≡ 0 → ⊥
+asked c q = c .if1 .left (c .before .get16 .ensures ∙ q)
 
--- src/records.rt:91:9
-plain-requires-2 : tie.Need-plain-requires-2
-plain-requires-2 c κs = search needs
-
--- src/records.rt:91:9
-same-length : tie.Need-same-length
-same-length c = search needs
-
--- src/records.rt:91:9
 returns-2 : tie.Need-returns-2
-returns-2 c = ?
+returns-2 c =
+    let n = c .before .before in
+    let k = n .before .before in
+    let z = k .before .before .before .before .before in
+    none-held _ (z .pre .0) _ (z .pre .1) _ _ _ _ (asked k) _ (sym (n .held .ensures .0) ∙ c .before .if2 .taken) (c .plain2 .ensures) refl
 
--- src/records.rt:93:9
-least-requires : tie.Need-least-requires
-least-requires c κs = search needs
-
--- src/records.rt:94:27
-most-sent-requires : tie.Need-most-sent-requires
-most-sent-requires c κs = search needs
-
--- src/records.rt:94:9
-least-requires-2 : tie.Need-least-requires-2
-least-requires-2 c κs = search needs
-
--- src/records.rt:95:32
-data-at-requires : tie.Need-data-at-requires
-data-at-requires c κs = search needs
-
--- src/records.rt:95:5
-tell-records-requires : tie.Need-tell-records-requires
-tell-records-requires c κs = search needs
-
--- src/records.rt:96:9
 row-at-requires : tie.Need-row-at-requires
-row-at-requires c κs = ?
+row-at-requires c κs =
+    let n = c .before .before .before .before .before .before .before in
+    let z = n .before .before .before .before .before .before .before .before .before .before .before in
+    (z .pre .1, omega (arith, sound-size _ (z .pre .0)))
 
--- src/records.rt:97:30
-add-status-of : tie.Need-add-status-of
-add-status-of c = search needs
+-- the row lies in the store
+inside : (c : tie.After-row-at) → let n = c .before .before .before .before .before .before .before .before in
+    let z = n .before .before .before .before .before .before .before .before .before .before .before in
+    c .row-at .result + rowWidth ≤ length (z .args .s .now)
+inside c =
+    let n = c .before .before .before .before .before .before .before .before in
+    let z = n .before .before .before .before .before .before .before .before .before .before .before in
+    lent-inside _ (z .pre .0) _ (z .pre .1) _ (c .row-at .ensures .0)
 
--- src/records.rt:97:28
 slice-read-status-of : tie.Need-slice-read-status-of
-slice-read-status-of c = ?
+slice-read-status-of c = omega (arith, inside (c .before))
 
--- src/records.rt:97:9
-status-of-requires : tie.Need-status-of-requires
-status-of-requires c κs = search needs
-
--- src/records.rt:98:29
-add-set-due : tie.Need-add-set-due
-add-set-due c = search needs
-
--- src/records.rt:98:18
-sub-set-due : tie.Need-sub-set-due
-sub-set-due c = search needs
-
--- src/records.rt:98:18
-part-set-due-start : tie.Need-part-set-due-start
-part-set-due-start c = search needs
-
--- src/records.rt:98:18
 part-set-due-end : tie.Need-part-set-due-end
-part-set-due-end c = ?
+part-set-due-end c = omega (arith, inside (c .before .before))
 
--- src/records.rt:98:47
-cast-set-due : tie.Need-cast-set-due
-cast-set-due c = search needs
-
--- src/records.rt:98:5
-set-due-requires : tie.Need-set-due-requires
-set-due-requires c κs = search needs
-
--- src/records.rt:101:18
-mul-t16 : tie.Need-mul-t16
-mul-t16 c = search needs
-
--- src/records.rt:101:14
-add-t27 : tie.Need-add-t27
-add-t27 c = search needs
-
--- src/records.rt:81:1
-same-length-2 : tie.Need-same-length-2
-same-length-2 c = search needs
-
--- src/records.rt:81:1
-same-length-3 : tie.Need-same-length-3
-same-length-3 c = search needs
-
--- src/records.rt:81:1
 returns-3 : tie.Need-returns-3
-returns-3 c = ?
+unfolding dueRow
+returns-3 c =
+    let row = c .before .before in
+    let status = row .before .before in
+    let a = status .before .before in
+    let out = a .before .before .before .before in
+    let to = out .before in
+    let n = to .before .before .before in
+    let wanted = n .before .before in
+    let some = wanted .before in
+    let there = some .before in
+    let k = there .before .before in
+    let z₁ = k .before .before .before .before in
+    let z = z₁ .before in
+    let at = a .row-at .ensures .0 in
+    records-told _ (z .pre .0) _ (z .pre .1) _ _ _ _ (asked k) (λ q. some .if2 .left (there .held .ensures .0 ∙ q)) (λ i. z₁ .slice-known .given i .fits) _ _ _
+    (wanted .least .ensures ∙ rw (k .before .get16 .ensures, there .held .ensures .0)) (n .least2 .ensures ∙ rw (n .before .most-sent .ensures .0)) _ _ _ (to .data-at .ensures .0) refl
+    (status .status-of .ensures ∙ rw (row-octet (z .args .s .now) (z .args .d) (a .row-at .result) at 455 (lit< tt)))
+    (lent-done _ (z .pre .0) _ (z .pre .1) _ at (dueRow (n .least2 .result)) _ (ap length (row .set-due .ensures) ∙ simp put-length) (row .set-due .ensures))
+    (out .tell-records .ensures)
 
 pub read-records-spec : {M : Type 1} → statement M
 read-records-spec =
     tie.close
     (tie.spec
-    get16-requires
-    cast-asked
-    plain-requires
+    (λ c κs. search needs)
+    (λ c. search needs)
+    (λ c κs. search needs)
     returns
-    held-requires
-    plain-requires-2
-    same-length
+    (λ c κs. search needs)
+    (λ c κs. search needs)
+    (λ c. search needs)
     returns-2
-    least-requires
-    most-sent-requires
-    least-requires-2
-    data-at-requires
-    tell-records-requires
+    (λ c κs. search needs)
+    (λ c κs. search needs)
+    (λ c κs. search needs)
+    (λ c κs. search needs)
+    (λ c κs. search needs)
     row-at-requires
-    add-status-of
+    (λ c. search needs)
     slice-read-status-of
-    status-of-requires
-    add-set-due
-    sub-set-due
-    part-set-due-start
+    (λ c κs. search needs)
+    (λ c. search needs)
+    (λ c. search needs)
+    (λ c. search needs)
     part-set-due-end
-    cast-set-due
-    set-due-requires
-    mul-t16
-    add-t27
-    same-length-2
-    same-length-3
+    (λ c. search needs)
+    (λ c κs. search needs)
+    (λ c. search needs)
+    (λ c. search needs)
+    (λ c. search needs)
+    (λ c. search needs)
     returns-3)

@@ -1,109 +1,109 @@
+-- `desk::records::remove` meets its contract. Assumes nothing.
+use Prim.Native.Nat.{_+_, _-_, _%_, _≤_}
+use mathlib.Core.Path.{_≡_, ap, _∙_}
+use mathlib.Core.List.{_++_}
+use native.Mathlib.Omega.{arith}
 use borrow.Author.Needs.{needs}
+use lib.Dec.{lit<}
+use lib.ListN.{length, take, drop, getD}
+use Rattle.octets.specs.Parts.{put}
+use Rattle.store.specs.Layout.{rowWidth, rowAt, rowOf}
+use Rattle.desk.specs.Row.{closedRow}
+use Rattle.desk.proofs.Lengths.{closed-length}
+use Rattle.desk.proofs.LentRow.{sound-size, lent-inside, lent-done}
+use Rattle.desk.proofs.RowOctets.{row-octet}
+use Rattle.desk.proofs.Empties.{closing, removed-done}
 use Rattle.desk.proofs.records.remove.Statement.{statement}
 use Rattle.desk.proofs.records.remove.Tie as tie
-use Rattle.desk.proofs.records.remove.Reads as reads
-use Rattle.desk.proofs.records.remove.Lts as lts
-use Rattle.desk.proofs.plain.Reads as plain-reads
-use Rattle.desk.proofs.records.remove_first.Reads as remove-first-reads
-use Rattle.desk.proofs.row.close_table.Reads as close-table-reads
-use Rattle.store.proofs.row_at.Reads as row-at-reads
 
--- src/records.rt:123:9
 row-at-requires : tie.Need-row-at-requires
-row-at-requires c κs = ?
+row-at-requires c κs =
+    let z = c .before .before .before in
+    (z .pre .1, omega (arith, sound-size _ (z .pre .0)))
 
--- src/records.rt:124:17
-add-due : tie.Need-add-due
-add-due c = search needs
+-- the row lies in the store
+inside : (c : tie.After-row-at) → c .row-at .result + rowWidth ≤ length (c .before .before .before .before .args .s .now)
+inside c =
+    let z = c .before .before .before .before in
+    lent-inside _ (z .pre .0) _ (z .pre .1) _ (c .row-at .ensures .0)
 
--- src/records.rt:124:15
 slice-read-due : tie.Need-slice-read-due
-slice-read-due c = ?
+slice-read-due c = omega (arith, inside (c .before))
 
--- src/records.rt:125:20
-add-start : tie.Need-add-start
-add-start c = search needs
-
--- src/records.rt:125:18
 slice-read-start : tie.Need-slice-read-start
-slice-read-start c = ?
+slice-read-start c = omega (arith, inside (c .before .before))
 
--- src/records.rt:125:18
 cast-start : tie.Need-cast-start
-cast-start c = ?
+cast-start c = record { fits = omega (arith, c .slice-known3 .given (c .before .before .row-at .result + 457)) }
 
--- src/records.rt:125:39
 cast-start-2 : tie.Need-cast-start-2
-cast-start-2 c = ?
+cast-start-2 c = record { fits = omega (arith, c .slice-known3 .given (c .before .before .row-at .result + 456)) }
 
--- src/records.rt:125:18
 add-start-2 : tie.Need-add-start-2
-add-start-2 c = ?
+add-start-2 c =
+    let at = c .before .before .row-at .result in
+    record { fits = omega (arith, c .slice-known3 .given (at + 456), c .slice-known3 .given (at + 457)) }
 
--- src/records.rt:126:33
-add-close-table : tie.Need-add-close-table
-add-close-table c = search needs
-
--- src/records.rt:126:22
-sub-close-table : tie.Need-sub-close-table
-sub-close-table c = search needs
-
--- src/records.rt:126:22
-part-close-table-start : tie.Need-part-close-table-start
-part-close-table-start c = search needs
-
--- src/records.rt:126:22
 part-close-table-end : tie.Need-part-close-table-end
-part-close-table-end c = ?
+part-close-table-end c = omega (arith, inside (c .before .before))
 
--- src/records.rt:126:51
-cast-close-table : tie.Need-cast-close-table
-cast-close-table c = search needs
-
--- src/records.rt:126:5
-close-table-requires : tie.Need-close-table-requires
-close-table-requires c κs = search needs
-
--- src/records.rt:127:24
 cast-remove-first : tie.Need-cast-remove-first
-cast-remove-first c = ?
+cast-remove-first c =
+    let g = c .before .before .before .before .before in
+    record { fits = omega (arith, g .slice-known3 .given (g .before .before .row-at .result + 456)) }
 
--- src/records.rt:127:5
+-- the store after the row
+changed : (c : tie.After-close-table) → let a = c .before .before .before .before in
+    let at = a .row-at .result in
+    let z = a .before .before .before .before in
+    let s = z .args .s .now in
+    let row = rowOf (z .args .d) s in
+    take at s ++ (c .close-table .last .0 ++ drop (at + rowWidth - at) (drop at s))
+    ≡ put (rowAt (z .args .d) s) (closedRow ((getD row 457 0 + getD row 456 0) % 64) row) s
+changed c =
+    let a = c .before .before .before .before in
+    let z = a .before .before .before .before in
+    let octet = row-octet (z .args .s .now) (z .args .d) (a .row-at .result) (a .row-at .ensures .0) in
+    rw (← octet 457 (lit< tt), ← octet 456 (lit< tt))
+    (lent-done _ (z .pre .0) _ (z .pre .1) _ (a .row-at .ensures .0) (closedRow _) _ (ap length (c .close-table .ensures) ∙ closed-length _ _) (c .close-table .ensures))
+
 remove-first-requires : tie.Need-remove-first-requires
-remove-first-requires c κs = ?
+remove-first-requires c κs =
+    let k = c .before .before .before in
+    let z₁ = k .before .before .before .before .before .before .before in
+    let z = z₁ .before in
+    (rw (changed k) (closing _ (z .pre .0) _ (z .pre .1) (λ i. z₁ .slice-known .given i .fits) _ .still), z .pre .1)
 
--- src/records.rt:128:5
-plain-requires : tie.Need-plain-requires
-plain-requires c κs = search needs
-
--- src/records.rt:119:1
-same-length : tie.Need-same-length
-same-length c = search needs
-
--- src/records.rt:119:1
 returns : tie.Need-returns
-returns c = ?
+returns c =
+    let f = c .before .before .before in
+    let k = f .before .before .before .before in
+    let a = k .before .before .before .before in
+    let z₁ = a .before .before .before in
+    let z = z₁ .before in
+    rw (f .remove-first .ensures, changed k, row-octet (z .args .s .now) (z .args .d) (a .row-at .result) (a .row-at .ensures .0) 456 (lit< tt))
+    (removed-done _ (z .pre .0) _ (z .pre .1) (λ i. z₁ .slice-known .given i .fits) _ (c .plain .ensures) _)
 
 pub remove-spec : {M : Type 1} → statement M
 remove-spec =
     tie.close
     (tie.spec
     row-at-requires
-    add-due
+    (λ c. search needs)
     slice-read-due
-    add-start
+    (λ c. search needs)
     slice-read-start
     cast-start
     cast-start-2
     add-start-2
-    add-close-table
-    sub-close-table
-    part-close-table-start
+    (λ c. search needs)
+    (λ c. search needs)
+    (λ c. search needs)
     part-close-table-end
-    cast-close-table
-    close-table-requires
+    (λ c. search needs)
+    (λ c κs. search needs)
     cast-remove-first
     remove-first-requires
-    plain-requires
-    same-length
+    (λ c κs. search needs)
+    (λ c. search needs)
     returns)

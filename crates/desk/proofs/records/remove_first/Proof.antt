@@ -1,60 +1,54 @@
+-- `desk::records::remove_first` meets its contract. Assumes nothing.
+use mathlib.Core.Path.{_∙_}
+use native.Mathlib.Omega.{arith}
 use borrow.Author.Needs.{needs}
+use lib.Dec.{lit<}
+use Rattle.desk.proofs.LentRow.{sound-size}
+use Rattle.desk.proofs.LentTable.{table-inside, table-fits, fewer-left, back-length, removed-back}
 use Rattle.desk.proofs.records.remove_first.Statement.{statement}
 use Rattle.desk.proofs.records.remove_first.Tie as tie
-use Rattle.desk.proofs.records.remove_first.Reads as reads
-use Rattle.desk.proofs.records.remove_first.Lts as lts
-use Rattle.octets.proofs.put16.Reads as put16-reads
-use Rattle.store.proofs.start.Reads as start-reads
-use Rattle.store.proofs.used.Reads as used-reads
-use Rattle.table.proofs.remove.Reads as remove-reads
 
--- src/records.rt:36:9
 start-requires : tie.Need-start-requires
-start-requires c κs = ?
+start-requires c κs = (lit< tt, omega (arith, sound-size _ (c .before .before .pre .0)))
 
--- src/records.rt:37:9
 used-requires : tie.Need-used-requires
-used-requires c κs = ?
+used-requires c κs = omega (arith, sound-size _ (c .before .before .before .before .pre .0))
 
--- src/records.rt:38:41
-add-remove : tie.Need-add-remove
-add-remove c = search needs
-
--- src/records.rt:38:30
-sub-remove : tie.Need-sub-remove
-sub-remove c = search needs
-
--- src/records.rt:38:30
-part-remove-start : tie.Need-part-remove-start
-part-remove-start c = search needs
-
--- src/records.rt:38:30
 part-remove-end : tie.Need-part-remove-end
-part-remove-end c = ?
+part-remove-end c =
+    let a = c .before .before in
+    omega (arith, table-inside _ (a .before .before .before .pre .0) _ _ (a .start .ensures .0) (c .used .ensures .0))
 
--- src/records.rt:38:56
-cast-remove : tie.Need-cast-remove
-cast-remove c = search needs
-
--- src/records.rt:38:9
 remove-requires : tie.Need-remove-requires
-remove-requires c κs = ?
+remove-requires c κs =
+    let u = c .before in
+    let a = u .before .before in
+    table-fits _ (a .before .before .before .pre .0) _ _ (a .start .ensures .0) (u .used .ensures .0)
 
--- src/records.rt:39:25
 cast-put16 : tie.Need-cast-put16
-cast-put16 c = ?
+cast-put16 c =
+    let r = c .before .before .before in
+    let u = r .before .before in
+    let a = u .before .before in
+    let z = a .before .before .before in
+    record { fits = omega (arith, r .remove .ensures .0, fewer-left _ (z .pre .0) _ _ (a .start .ensures .0) (u .used .ensures .0) (z .args .d) (z .args .k)) }
 
--- src/records.rt:39:5
 put16-requires : tie.Need-put16-requires
-put16-requires c κs = ?
+put16-requires c κs =
+    let r = c .before .before .before in
+    let u = r .before .before in
+    let a = u .before .before in
+    let z = a .before .before .before in
+    omega (arith, back-length _ (z .pre .0) _ _ (a .start .ensures .0) (u .used .ensures .0) _ _ (r .remove .ensures .1))
 
--- src/records.rt:32:1
-same-length : tie.Need-same-length
-same-length c = search needs
-
--- src/records.rt:32:1
 returns : tie.Need-returns
-returns c = ?
+returns c =
+    let p = c .before .before in
+    let r = p .before .before .before .before in
+    let u = r .before .before in
+    let a = u .before .before in
+    let z = a .before .before .before in
+    p .put16 .ensures ∙ removed-back _ (z .pre .0) _ _ (a .start .ensures .0) (u .used .ensures .0) (z .args .d) (z .args .k) _ _ (r .remove .ensures .0) (r .remove .ensures .1)
 
 pub remove-first-spec : {M : Type 1} → statement M
 remove-first-spec =
@@ -62,13 +56,13 @@ remove-first-spec =
     (tie.spec
     start-requires
     used-requires
-    add-remove
-    sub-remove
-    part-remove-start
+    (λ c. search needs)
+    (λ c. search needs)
+    (λ c. search needs)
     part-remove-end
-    cast-remove
+    (λ c. search needs)
     remove-requires
     cast-put16
     put16-requires
-    same-length
+    (λ c. search needs)
     returns)

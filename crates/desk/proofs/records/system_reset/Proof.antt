@@ -1,64 +1,66 @@
+-- `desk::records::system_reset` meets its contract. Assumes nothing.
+use mathlib.Core.Path.{_≡_, ap, _∙_}
+use mathlib.Core.List.{_++_}
+use native.Mathlib.Omega.{arith}
 use borrow.Author.Needs.{needs}
+use Prim.Native.Nat.{_+_, _-_}
+use lib.ListN.{length, take, drop}
+use Rattle.octets.specs.Parts.{put}
+use Rattle.store.specs.Layout.{rowWidth, rowAt, rowOf}
+use Rattle.desk.specs.Row.{systemRow}
+use Rattle.desk.proofs.Lengths.{system-length}
+use Rattle.desk.proofs.LentRow.{sound-size, lent-inside, lent-done}
+use Rattle.desk.proofs.Empties.{restarting, system-done}
 use Rattle.desk.proofs.records.system_reset.Statement.{statement}
 use Rattle.desk.proofs.records.system_reset.Tie as tie
-use Rattle.desk.proofs.records.system_reset.Reads as reads
-use Rattle.desk.proofs.records.system_reset.Lts as lts
-use Rattle.desk.proofs.plain.Reads as plain-reads
-use Rattle.desk.proofs.records.remove_first.Reads as remove-first-reads
-use Rattle.desk.proofs.row.restart_all.Reads as restart-all-reads
-use Rattle.store.proofs.row_at.Reads as row-at-reads
 
--- src/records.rt:147:9
 row-at-requires : tie.Need-row-at-requires
-row-at-requires c κs = ?
+row-at-requires c κs =
+    let z = c .before .before .before in
+    (z .pre .1, omega (arith, sound-size _ (z .pre .0)))
 
--- src/records.rt:148:33
-add-restart-all : tie.Need-add-restart-all
-add-restart-all c = search needs
+part-end : tie.Need-part-restart-all-end
+part-end c =
+    let z = c .before .before .before .before in
+    omega (arith, lent-inside _ (z .pre .0) _ (z .pre .1) _ (c .row-at .ensures .0))
 
--- src/records.rt:148:22
-sub-restart-all : tie.Need-sub-restart-all
-sub-restart-all c = search needs
+-- the store after the row
+changed : (c : tie.After-restart-all) → let a = c .before .before in
+    let at = a .row-at .result in
+    let z = a .before .before .before .before in
+    let s = z .args .s .now in
+    take at s ++ (c .restart-all .last .0 ++ drop (at + rowWidth - at) (drop at s)) ≡ put (rowAt (z .args .d) s) (systemRow (rowOf (z .args .d) s)) s
+changed c =
+    let a = c .before .before in
+    let z = a .before .before .before .before in
+    lent-done _ (z .pre .0) _ (z .pre .1) _ (a .row-at .ensures .0) systemRow _ (ap length (c .restart-all .ensures) ∙ system-length _) (c .restart-all .ensures)
 
--- src/records.rt:148:22
-part-restart-all-start : tie.Need-part-restart-all-start
-part-restart-all-start c = search needs
-
--- src/records.rt:148:22
-part-restart-all-end : tie.Need-part-restart-all-end
-part-restart-all-end c = ?
-
--- src/records.rt:148:5
-restart-all-requires : tie.Need-restart-all-requires
-restart-all-requires c κs = search needs
-
--- src/records.rt:149:5
 remove-first-requires : tie.Need-remove-first-requires
-remove-first-requires c κs = ?
+remove-first-requires c κs =
+    let k = c .before .before .before in
+    let z₁ = k .before .before .before .before .before in
+    let z = z₁ .before in
+    (rw (changed k) (restarting _ (z .pre .0) _ (z .pre .1) (λ i. z₁ .slice-known .given i .fits) .still), z .pre .1)
 
--- src/records.rt:150:5
-plain-requires : tie.Need-plain-requires
-plain-requires c κs = search needs
-
--- src/records.rt:143:1
-same-length : tie.Need-same-length
-same-length c = search needs
-
--- src/records.rt:143:1
 returns : tie.Need-returns
-returns c = ?
+returns c =
+    let f = c .before .before .before in
+    let k = f .before .before .before .before in
+    let z₁ = k .before .before .before .before .before in
+    let z = z₁ .before in
+    rw (f .remove-first .ensures, changed k) (system-done _ (z .pre .0) _ (z .pre .1) (λ i. z₁ .slice-known .given i .fits) _ (c .plain .ensures) _)
 
 pub system-reset-spec : {M : Type 1} → statement M
 system-reset-spec =
     tie.close
     (tie.spec
     row-at-requires
-    add-restart-all
-    sub-restart-all
-    part-restart-all-start
-    part-restart-all-end
-    restart-all-requires
+    (λ c. search needs)
+    (λ c. search needs)
+    (λ c. search needs)
+    part-end
+    (λ c κs. search needs)
     remove-first-requires
-    plain-requires
-    same-length
+    (λ c κs. search needs)
+    (λ c. search needs)
     returns)

@@ -4,19 +4,19 @@ use native.Mathlib.Omega.{arith}
 use lib.ListN.{length-take, length-drop}
 use Rattle.locks.specs.Locks.{isFound, locked}
 use Rattle.desk.specs.Obeyed.{kept}
-use Rattle.desk.proofs.LentRow.{store-size, row-within}
+use Rattle.desk.proofs.LentRow.{sound-size, lent-inside}
 use Rattle.desk.proofs.Sights.{few-there, locks-lent}
 use borrow.Author.Needs.{needs}
 use Rattle.desk.proofs.sightings.is_locked.Statement.{statement}
 use Rattle.desk.proofs.sightings.is_locked.Tie as tie
 
 row-at-requires : tie.Need-row-at-requires
-row-at-requires c κs = (c .before .pre .1, omega (arith, store-size _ (c .before .pre .0)))
+row-at-requires c κs = (c .before .pre .1, omega (arith, sound-size _ (c .before .pre .0)))
 
 shared-slice-read-n : tie.Need-shared-slice-read-n
 shared-slice-read-n c =
     let z = c .before .before .before in
-    omega (arith, row-within _ (z .pre .0) (z .args .d) (z .pre .1) _ (c .before .row-at .ensures .0))
+    omega (arith, lent-inside _ (z .pre .0) (z .args .d) (z .pre .1) _ (c .before .row-at .ensures .0))
 
 cast-n : tie.Need-cast-n
 cast-n c =
@@ -26,13 +26,13 @@ cast-n c =
 part-lookup-in-end : tie.Need-part-lookup-in-end
 part-lookup-in-end c =
     let z = c .before .before .before in
-    omega (arith, row-within _ (z .pre .0) (z .args .d) (z .pre .1) _ (c .before .row-at .ensures .0))
+    omega (arith, lent-inside _ (z .pre .0) (z .args .d) (z .pre .1) _ (c .before .row-at .ensures .0))
 
 lookup-in-requires : tie.Need-lookup-in-requires
 lookup-in-requires c κs =
     let z = c .before .before .before .before in
     let few = few-there _ (z .pre .0) (z .args .d) (z .pre .1) _ (c .before .before .row-at .ensures .0) in
-    let inside = row-within _ (z .pre .0) (z .args .d) (z .pre .1) _ (c .before .before .row-at .ensures .0) in
+    let inside = lent-inside _ (z .pre .0) (z .args .d) (z .pre .1) _ (c .before .before .row-at .ensures .0) in
     (few, simp (length-take, length-drop) (omega arith))
 
 -- what was found, among the locks of the desk

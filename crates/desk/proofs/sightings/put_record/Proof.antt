@@ -3,17 +3,17 @@ use mathlib.Core.Path.{_∙_}
 use native.Mathlib.Omega.{arith}
 use lib.Dec.{lit<}
 use lib.ListN.{length-take, length-drop}
-use Rattle.desk.proofs.LentRow.{store-size}
+use Rattle.desk.proofs.LentRow.{sound-size}
 use Rattle.desk.proofs.NewRecord.{entries-within, appended-size, record-back, has-room}
 use borrow.Author.Needs.{needs}
 use Rattle.desk.proofs.sightings.put_record.Statement.{statement}
 use Rattle.desk.proofs.sightings.put_record.Tie as tie
 
 start-requires : tie.Need-start-requires
-start-requires c κs = (lit< tt, omega (arith, store-size _ (c .before .before .pre .0)))
+start-requires c κs = (lit< tt, omega (arith, sound-size _ (c .before .before .pre .0)))
 
 used-requires : tie.Need-used-requires
-used-requires c κs = omega (arith, store-size _ (c .before .before .before .before .pre .0))
+used-requires c κs = omega (arith, sound-size _ (c .before .before .before .before .pre .0))
 
 part-append-end : tie.Need-part-append-end
 part-append-end c =

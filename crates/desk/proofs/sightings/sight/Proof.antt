@@ -12,7 +12,7 @@ use Rattle.desk.specs.Row.{markedRow, lockedRow}
 use Rattle.desk.specs.Removal.{recordedIn}
 use Rattle.desk.specs.Obeyed.{kept}
 use Rattle.desk.proofs.Doing.{row-size}
-use Rattle.desk.proofs.LentRow.{store-size, few-locks, row-within, row-lent, row-back}
+use Rattle.desk.proofs.LentRow.{sound-size, few-locks, lent-inside, lent-row, row-back}
 use Rattle.desk.proofs.Sights.{timer-read, marked-size, locked-size, WithRecord, ignored, lost, recorded}
 use borrow.Author.Needs.{needs}
 use Rattle.desk.proofs.sightings.sight.Statement.{statement}
@@ -29,7 +29,7 @@ returns c =
 row-at-requires : tie.Need-row-at-requires
 row-at-requires c κs =
     let z = c .before .before .before .before .before in
-    (z .pre .1, omega (arith, store-size _ (z .pre .0)))
+    (z .pre .1, omega (arith, sound-size _ (z .pre .0)))
 
 -- not locked
 free : (c : tie.Else1)
@@ -43,7 +43,7 @@ part-set-mark-end : tie.Need-part-set-mark-end
 part-set-mark-end c =
     let r = c .before .before .before in
     let z = r .before .before .before .before .before .before in
-    omega (arith, row-within _ (z .pre .0) (z .args .d) (z .pre .1) _ (r .row-at .ensures .0))
+    omega (arith, lent-inside _ (z .pre .0) (z .args .d) (z .pre .1) _ (r .row-at .ensures .0))
 
 returns-2 : tie.Need-returns-2
 returns-2 c =
@@ -64,7 +64,7 @@ read-requires : tie.Need-read-requires
 read-requires c κs =
     let r = c .before .before .before .before in
     let z = r .before .before .before .before .before .before in
-    omega (arith, row-within _ (z .pre .0) (z .args .d) (z .pre .1) _ (r .row-at .ensures .0))
+    omega (arith, lent-inside _ (z .pre .0) (z .args .d) (z .pre .1) _ (r .row-at .ensures .0))
 
 -- the store with the record
 new : (c : tie.After-put-record)
@@ -95,7 +95,7 @@ part-add-lock-end : tie.Need-part-add-lock-end
 part-add-lock-end c =
     let p = c .before .before in
     let z = p .before .before .before .before .before .before .before .before .before .before .before .before .before .before in
-    omega (arith, row-within _ (new p .still) (z .args .d) (z .pre .1) _ (place-now p))
+    omega (arith, lent-inside _ (new p .still) (z .args .d) (z .pre .1) _ (place-now p))
 
 add-lock-requires : tie.Need-add-lock-requires
 add-lock-requires c κs =
@@ -104,7 +104,7 @@ add-lock-requires c κs =
     let z = r .before .before .before .before .before .before in
     let s′ = p .put-record .last .0 in
     let e = new p .still in
-    rw (row-lent s′ e (z .args .d) (z .pre .1) (r .row-at .result) (place-now p)) (row-size s′ e (z .args .d) (z .pre .1), few-locks s′ e (z .args .d) (z .pre .1))
+    rw (lent-row s′ e (z .args .d) (z .pre .1) (r .row-at .result) (place-now p)) (row-size s′ e (z .args .d) (z .pre .1), few-locks s′ e (z .args .d) (z .pre .1))
 
 returns-3 : tie.Need-returns-3
 returns-3 c =

@@ -3,7 +3,7 @@ use Prim.Native.Nat.{_-_, _≤_}
 use mathlib.Core.Path.{sym, _∙_}
 use native.Mathlib.Omega.{arith}
 use Rattle.table.specs.Entries.{desks}
-use Rattle.desk.proofs.LentRow.{store-size}
+use Rattle.desk.proofs.LentRow.{sound-size}
 use Rattle.desk.proofs.Ticks.{TickedTo, ticked-none, ticked-more, ticked-all}
 use borrow.Author.Needs.{needs}
 use Rattle.desk.proofs.sightings.tick.Statement.{statement}
@@ -27,7 +27,7 @@ loop-again c =
     (omega arith, ticked-more _ _ _ _ (omega arith) (l .loop .inv .1) (c .before .before .tick-desk .ensures))
 
 same-length : tie.Need-same-length Inv-loop μ-loop
-same-length c = store-size _ (c .before .loop .inv .1 .still) ∙ sym (store-size _ (c .before .before .before .pre))
+same-length c = sound-size _ (c .before .loop .inv .1 .still) ∙ sym (sound-size _ (c .before .before .before .pre))
 
 returns : tie.Need-returns Inv-loop μ-loop
 returns c = ticked-all _ _ _ (omega arith) (c .before .loop .inv .1)

@@ -3,19 +3,19 @@ use mathlib.Core.Path.{_∙_}
 use native.Mathlib.Omega.{arith}
 use Rattle.desk.specs.Row.{tickedRow}
 use Rattle.desk.proofs.Doing.{row-size}
-use Rattle.desk.proofs.LentRow.{store-size, few-locks, row-within, row-lent, row-back}
+use Rattle.desk.proofs.LentRow.{sound-size, few-locks, lent-inside, lent-row, row-back}
 use Rattle.desk.proofs.Ticks.{ticked-size, row-ticked}
 use borrow.Author.Needs.{needs}
 use Rattle.desk.proofs.sightings.tick_desk.Statement.{statement}
 use Rattle.desk.proofs.sightings.tick_desk.Tie as tie
 
 row-at-requires : tie.Need-row-at-requires
-row-at-requires c κs = (c .before .before .pre .1, omega (arith, store-size _ (c .before .before .pre .0)))
+row-at-requires c κs = (c .before .before .pre .1, omega (arith, sound-size _ (c .before .before .pre .0)))
 
 part-tick-end : tie.Need-part-tick-end
 part-tick-end c =
     let z = c .before .before .before in
-    omega (arith, row-within _ (z .pre .0) (z .args .d) (z .pre .1) _ (c .row-at .ensures .0))
+    omega (arith, lent-inside _ (z .pre .0) (z .args .d) (z .pre .1) _ (c .row-at .ensures .0))
 
 tick-requires : tie.Need-tick-requires
 tick-requires c κs =
@@ -23,7 +23,7 @@ tick-requires c κs =
     let z = r .before .before .before in
     let s = z .args .s .now in
     let d = z .args .d in
-    rw (row-lent s (z .pre .0) d (z .pre .1) (r .row-at .result) (r .row-at .ensures .0)) (row-size s (z .pre .0) d (z .pre .1), few-locks s (z .pre .0) d (z .pre .1))
+    rw (lent-row s (z .pre .0) d (z .pre .1) (r .row-at .result) (r .row-at .ensures .0)) (row-size s (z .pre .0) d (z .pre .1), few-locks s (z .pre .0) d (z .pre .1))
 
 returns : tie.Need-returns
 returns c =
