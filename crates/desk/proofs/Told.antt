@@ -17,14 +17,17 @@ use Rattle.octets.proofs.Numbers.{octets-part}
 use Rattle.timer.specs.Clock.{timerOctets, timerFrom}
 use Rattle.timer.proofs.ReadBack.{timer-forth}
 use Rattle.table.specs.Entries.{desks}
+use Rattle.rules.specs.Config.{blockAt}
 use Rattle.rules.specs.Desk.{Desk, memoryOf}
 use Rattle.rules.specs.Command.{passwordIs}
+use Rattle.rules.proofs.Memories.{length-block}
+use Rattle.rules.proofs.Legality.{memory-of}
 use Rattle.store.specs.Layout.{rowWidth, rowAt, rowOf}
 use Rattle.store.specs.Rows.{field, fields}
 use Rattle.store.specs.View.{deskOf}
 use Rattle.store.specs.Sound.{sound}
 use Rattle.desk.specs.Obeyed.{kept}
-use Rattle.desk.proofs.Doing.{kept-is}
+use Rattle.desk.proofs.Doing.{kept-is, kept-legal}
 use Rattle.desk.proofs.LentRow.{row-inside}
 
 -- all octets, as a part
@@ -49,6 +52,9 @@ module _ (s : List ℕ) (e : sound s ≡ true) (d : ℕ) (h : d < desks) where
   eeprom-told : part (rowAt d s + 224) 224 s ≡ kept d s .eeprom
   unfolding deskOf fields field upto
   eeprom-told = in-row 224 224 (lit≤ tt) ∙ sym (ap (λ (x : Desk). x .eeprom) (kept-is s e d h))
+
+  pub block-length : Octets s → (loc : Bool) (k : ℕ) → k < 16 → length (blockAt k (memoryOf loc (kept d s))) ≡ 14
+  block-length o loc k l = length-block (memoryOf loc (kept d s)) (memory-of (kept d s) (kept-legal s e d h o) loc) k l
 
   module _ (at : ℕ) (a : at ≡ rowAt d s) where
     -- the memory that LOC names, of both that are lent
