@@ -6,6 +6,7 @@ use mathlib.Core.List.{List, _++_}
 use native.Mathlib.Omega.{arith}
 use lib.ListN.{length, take, drop}
 use Rattle.octets.specs.Parts.{part, put}
+use Rattle.octets.proofs.Puts.{part-length}
 use Rattle.octets.proofs.Lent.{put-mid}
 use Rattle.table.specs.Entries.{desks}
 use Rattle.store.specs.Layout.{storeSize, rowWidth, rowAt, rowOf}
@@ -28,6 +29,9 @@ module _ (s : List ℕ) (e : sound s ≡ true) (d : ℕ) (h : d < desks) where
     pub lent-row : take (at + rowWidth - at) (drop at s) ≡ rowOf d s
     unfolding part
     lent-row = let n : at + rowWidth - at ≡ rowWidth = omega arith in rw (n, a)
+
+    pub lent-size : length (take (at + rowWidth - at) (drop at s)) ≡ rowWidth
+    lent-size = ap length lent-row ∙ part-length (rowAt d s) rowWidth s row-inside
 
     -- and it came back as ys
     pub lent-back : (ys : List ℕ) → length ys ≡ length (take (at + rowWidth - at) (drop at s))

@@ -6,7 +6,7 @@ use mathlib.Core.List.{List}
 use native.Mathlib.Nat.{add-zero}
 use native.Mathlib.Omega.{arith}
 use lib.Dec.{lit≤}
-use lib.ListN.{length, take, drop}
+use lib.ListN.{length, take, drop, length-drop}
 use lib.Seq.{take-all}
 use Rattle.octets.specs.Parts.{part, alike}
 use Rattle.octets.specs.Numbers.{Octets}
@@ -39,6 +39,10 @@ part-whole n s e = take-all n s (omega arith)
 pub lent-part : (at n : ℕ) (s : List ℕ) → take (at + n - at) (drop at s) ≡ part at n s
 unfolding part
 lent-part at n s = let e : at + n - at ≡ n = omega arith in rw e
+
+-- all behind the first n octets, as they are lent
+pub lent-rest : (n : ℕ) (s : List ℕ) → take (length s - n) (drop n s) ≡ drop n s
+lent-rest n s = take-all (length s - n) (drop n s) (omega (arith, length-drop n s))
 
 module _ (s : List ℕ) (e : sound s ≡ true) (d : ℕ) (h : d < desks) where
   -- a part of the row, where the store has it
