@@ -1,28 +1,24 @@
 -- `desk::config::save` meets its contract: the named block, or all, from RAM to EEPROM. Assumes nothing.
 use Prim.Native.Nat.{_<_}
-use mathlib.Core.Path.{_≡_, refl, sym, ap, _∙_}
-use mathlib.Core.Bool.{true, false, not, _&&_}
-use mathlib.Core.Option.{none}
+use mathlib.Core.Path.{_≡_, sym, _∙_}
+use mathlib.Core.Bool.{true, false}
 use native.Mathlib.Omega.{arith}
-use lib.Dec.{eqb}
-use lib.ListN.{length, getD, drop, length-drop}
+use lib.ListN.{getD}
 use borrow.Author.Needs.{needs}
 use Rattle.octets.specs.Tests.{first}
 use Rattle.octets.proofs.Tests.{passed, failed}
 use Rattle.table.specs.Entries.{recordsOf}
 use Rattle.rules.specs.declared.Command.the-variants.{SaveBlocks}
 use Rattle.rules.specs.Config.{blockAt, written, inEeprom, allBlocks, blockOf, namesSome, copied}
-use Rattle.rules.specs.Desk.{Desk, memoryOf, withMemory}
+use Rattle.rules.specs.Desk.{Desk, withMemory}
 use Rattle.rules.specs.Command.{ownTests, done, effect}
-use Rattle.rules.proofs.Legality.{Sized, names-one}
-use Rattle.rules.proofs.Memories.{length-block, defaults-legal}
+use Rattle.rules.proofs.Legality.{Sized}
 use Rattle.store.specs.Layout.{rowOf}
 use Rattle.store.specs.View.{inUse}
 use Rattle.desk.specs.Row.{savedRow, allSavedRow}
 use Rattle.desk.specs.Obeyed.{kept}
 use Rattle.desk.proofs.Doing.{row-size, row-flags}
 use Rattle.desk.proofs.LentRow.{sound-size, lent-inside, lent-size, lent-done}
-use Rattle.desk.proofs.Told.{lent-rest}
 use Rattle.desk.proofs.NamedBlocks.{named-below}
 use Rattle.desk.proofs.Lengths.{saved-length, all-saved-length}
 use Rattle.desk.proofs.Flagged.{saved-flags, all-saved-flags}

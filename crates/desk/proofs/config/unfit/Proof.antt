@@ -1,7 +1,6 @@
 -- `desk::config::unfit` meets its contract: the rule of block 7, and of no other. Assumes nothing.
 use borrow.Author.Needs.{needs}
 use borrow.Author.Tests.{eq-eqb, ne-eqb}
-use mathlib.Core.Path.{refl}
 use lib.Seq.{getD-drop}
 use Rattle.rules.specs.Config.{lineLegal}
 use Rattle.desk.proofs.config.unfit.Statement.{statement}

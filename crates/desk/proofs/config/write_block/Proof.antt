@@ -1,8 +1,7 @@
 -- `desk::config::write_block` meets its contract: the named block of the row, and of the desk. Assumes nothing.
 use Prim.Native.Nat.{_<_}
 use mathlib.Core.Path.{_≡_, refl, sym, ap, _∙_}
-use mathlib.Core.Bool.{true, false, not, _&&_}
-use mathlib.Core.Option.{none}
+use mathlib.Core.Bool.{true, not, _&&_}
 use native.Mathlib.Omega.{arith}
 use lib.Dec.{eqb}
 use lib.ListN.{length, getD, drop, length-drop}
@@ -15,7 +14,6 @@ use Rattle.rules.specs.Config.{written, inEeprom, blockOf, namesOne, lineLegal}
 use Rattle.rules.specs.Desk.{Desk, memoryOf, withMemory}
 use Rattle.rules.specs.Command.{ownTests, done, effect}
 use Rattle.rules.proofs.Legality.{Sized, names-one}
-use Rattle.rules.proofs.Memories.{length-block, defaults-legal}
 use Rattle.store.specs.Layout.{rowOf}
 use Rattle.store.specs.View.{inUse}
 use Rattle.desk.specs.Row.{writtenRow}
@@ -23,7 +21,6 @@ use Rattle.desk.specs.Obeyed.{kept}
 use Rattle.desk.proofs.Doing.{row-size, row-flags}
 use Rattle.desk.proofs.LentRow.{sound-size, lent-inside, lent-size, lent-done}
 use Rattle.desk.proofs.Told.{lent-rest}
-use Rattle.desk.proofs.NamedBlocks.{named-below}
 use Rattle.desk.proofs.Lengths.{written-length}
 use Rattle.desk.proofs.Flagged.{written-flags}
 use Rattle.desk.proofs.Meaning.{written-means}
@@ -68,10 +65,11 @@ write-block-requires c κs =
     let z = c .before .before .before .before .before .before .before .before .before .before .before .before .before in
     let at = c .before .before .before .row-at in
     let body = z .args .body .now in
-    let small : blockOf (getD body 0 0) < 16 = names-one _ (named (c .before .before .before .before .before .before .before .before)) in
-    (lent-size (z .args .s .now) (z .pre .0) (z .args .d) (z .pre .1) (at .result) (at .ensures .0),
+    let small : blockOf (getD body 0 0) < 16 = names-one _ (named (c .before .before .before .before .before .before .before .before)) in (
+      lent-size (z .args .s .now) (z .pre .0) (z .args .d) (z .pre .1) (at .result) (at .ensures .0),
       rw (c .before .before .before .before .before .before .before .block-of .ensures .0) small,
-      ap length (lent-rest 1 body) ∙ simp length-drop (omega (arith, z .pre .2)))
+      ap length (lent-rest 1 body) ∙ simp length-drop (omega (arith, z .pre .2)),
+    )
 
 returns-3 : tie.Need-returns-3
 unfolding first ownTests effect done Sized
