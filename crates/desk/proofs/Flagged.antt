@@ -1,24 +1,22 @@
 -- What is done to a row leaves login and mark 0 or 1. Assumes nothing.
 use Prim.Native.Nat.{ℕ, _+_, _*_, _≤_, _<_}
-use mathlib.Core.Path.{_≡_, refl, sym, ap, _∙_}
+use mathlib.Core.Path.{_≡_, refl, ap, _∙_}
 use mathlib.Core.Logic.{inl, inr}
 use mathlib.Core.Bool.{Bool, true, false, cond}
 use mathlib.Core.List.{List, [], _∷_}
 use native.Mathlib.Omega.{arith}
-use lib.ListN.{length, replicate, length-replicate}
-use lib.Dec.{lit<, lit≤}
+use lib.ListN.{length, replicate}
+use lib.Dec.{lit≤}
 use Rattle.octets.specs.Parts.{part, put, Apart}
 use Rattle.octets.specs.Numbers.{number}
 use Rattle.octets.proofs.Puts.{part-put-away, part-put-same, part-length, put-length}
 use Rattle.octets.proofs.Numbers.{number-one}
-use Rattle.timer.proofs.ReadBack.{timer-length}
 use Rattle.locks.specs.declared.Lock.{Lock}
 use Rattle.locks.specs.Locks.{locksOctets}
-use Rattle.locks.proofs.Stored.{locks-octets-length}
 use Rattle.rules.specs.Config.{defaults}
 use Rattle.store.specs.Layout.{rowWidth}
 use Rattle.store.specs.Rows.{field}
-use Rattle.desk.specs.Row.{one, loginRow, markedRow, dueRow, closedRow, timerRow, memoryAt, writtenRow, midnightRow, savedRow, allSavedRow, unlockedRow, locksRow, loadedRow, validRow, restartedRow, defaultRow, clearedRow, systemRow}
+use Rattle.desk.specs.Row.{one, loginRow, markedRow, dueRow, closedRow, timerRow, writtenRow, midnightRow, savedRow, allSavedRow, unlockedRow, locksRow, loadedRow, validRow, restartedRow, defaultRow, clearedRow, systemRow}
 use Rattle.rules.proofs.Memories.{defaults-legal}
 use Rattle.desk.proofs.Doing.{Flags}
 use Rattle.desk.proofs.Lengths.{login-length, closed-length, restarted-length}

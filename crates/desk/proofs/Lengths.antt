@@ -1,10 +1,10 @@
 -- What is done to a row leaves its length. Assumes nothing.
 use Prim.Native.Nat.{ℕ, _+_, _*_}
 use mathlib.Core.Path.{_≡_, _∙_}
-use mathlib.Core.Bool.{Bool, true, false, cond}
+use mathlib.Core.Bool.{Bool, true, cond}
 use mathlib.Core.List.{List, [], _∷_}
 use lib.ListN.{length, replicate}
-use Rattle.octets.specs.Parts.{part, put}
+use Rattle.octets.specs.Parts.{part}
 use Rattle.octets.proofs.Puts.{put-length}
 use Rattle.rules.specs.Config.{defaults}
 use Rattle.desk.specs.Row.{memoryAt, loginRow, dueRow, closedRow, timerRow, midnightRow, writtenRow, savedRow, allSavedRow, unlockedRow, loadedRow, validRow, restartedRow, defaultRow, clearedRow, systemRow}

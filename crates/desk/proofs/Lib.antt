@@ -2,6 +2,7 @@ pub mod Unknowns
 pub mod Doing
 pub mod LentRow
 pub mod Told
+pub mod NamedBlocks
 pub mod Answers
 pub mod Lengths
 pub mod Flagged

@@ -1,12 +1,12 @@
 -- What a store tells of a desk: its timer, its memories and its password, where they lie. Assumes nothing.
-use Prim.Native.Nat.{ℕ, _+_, _-_, _*_, _≤_, _<_}
-use mathlib.Core.Path.{_≡_, refl, sym, ap, _∙_}
+use Prim.Native.Nat.{ℕ, _+_, _-_, _≤_, _<_}
+use mathlib.Core.Path.{_≡_, sym, ap, _∙_}
 use mathlib.Core.Bool.{Bool, true, false, cond}
 use mathlib.Core.List.{List}
 use native.Mathlib.Nat.{add-zero}
 use native.Mathlib.Omega.{arith}
 use lib.Dec.{lit≤}
-use lib.ListN.{length, take, drop}
+use lib.ListN.{length, take, drop, length-drop}
 use lib.Seq.{take-all}
 use Rattle.octets.specs.Parts.{part, alike}
 use Rattle.octets.specs.Numbers.{Octets}
@@ -17,14 +17,17 @@ use Rattle.octets.proofs.Numbers.{octets-part}
 use Rattle.timer.specs.Clock.{timerOctets, timerFrom}
 use Rattle.timer.proofs.ReadBack.{timer-forth}
 use Rattle.table.specs.Entries.{desks}
+use Rattle.rules.specs.Config.{blockAt}
 use Rattle.rules.specs.Desk.{Desk, memoryOf}
 use Rattle.rules.specs.Command.{passwordIs}
+use Rattle.rules.proofs.Memories.{length-block}
+use Rattle.rules.proofs.Legality.{memory-of}
 use Rattle.store.specs.Layout.{rowWidth, rowAt, rowOf}
 use Rattle.store.specs.Rows.{field, fields}
 use Rattle.store.specs.View.{deskOf}
 use Rattle.store.specs.Sound.{sound}
 use Rattle.desk.specs.Obeyed.{kept}
-use Rattle.desk.proofs.Doing.{kept-is}
+use Rattle.desk.proofs.Doing.{kept-is, kept-legal}
 use Rattle.desk.proofs.LentRow.{row-inside}
 
 -- all octets, as a part
@@ -36,6 +39,10 @@ part-whole n s e = take-all n s (omega arith)
 pub lent-part : (at n : ℕ) (s : List ℕ) → take (at + n - at) (drop at s) ≡ part at n s
 unfolding part
 lent-part at n s = let e : at + n - at ≡ n = omega arith in rw e
+
+-- all behind the first n octets, as they are lent
+pub lent-rest : (n : ℕ) (s : List ℕ) → take (length s - n) (drop n s) ≡ drop n s
+lent-rest n s = take-all (length s - n) (drop n s) (omega (arith, length-drop n s))
 
 module _ (s : List ℕ) (e : sound s ≡ true) (d : ℕ) (h : d < desks) where
   -- a part of the row, where the store has it
@@ -49,6 +56,9 @@ module _ (s : List ℕ) (e : sound s ≡ true) (d : ℕ) (h : d < desks) where
   eeprom-told : part (rowAt d s + 224) 224 s ≡ kept d s .eeprom
   unfolding deskOf fields field upto
   eeprom-told = in-row 224 224 (lit≤ tt) ∙ sym (ap (λ (x : Desk). x .eeprom) (kept-is s e d h))
+
+  pub block-length : Octets s → (loc : Bool) (k : ℕ) → k < 16 → length (blockAt k (memoryOf loc (kept d s))) ≡ 14
+  block-length o loc k l = length-block (memoryOf loc (kept d s)) (memory-of (kept d s) (kept-legal s e d h o) loc) k l
 
   module _ (at : ℕ) (a : at ≡ rowAt d s) where
     -- the memory that LOC names, of both that are lent

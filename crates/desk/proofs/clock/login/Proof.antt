@@ -1,7 +1,10 @@
 -- `desk::clock::login` meets its contract: logged in by the password, else logged out. Assumes nothing.
+use Prim.Native.Nat.{_+_, _-_}
 use mathlib.Core.Path.{_≡_, refl, sym, _∙_}
 use mathlib.Core.Bool.{Bool, true, false, cond}
+use mathlib.Core.List.{_++_}
 use native.Mathlib.Omega.{arith}
+use lib.ListN.{take, drop}
 use borrow.Author.Needs.{needs}
 use Rattle.octets.specs.Tests.{first}
 use Rattle.table.specs.Entries.{recordsOf}
@@ -9,7 +12,7 @@ use Rattle.rules.specs.declared.Command.the-variants.{Login}
 use Rattle.rules.specs.Desk.{withLogin}
 use Rattle.rules.specs.Command.{ownTests, effect, passwordIs}
 use Rattle.rules.proofs.Legality.{Sized}
-use Rattle.store.specs.Layout.{rowOf}
+use Rattle.store.specs.Layout.{rowWidth, rowOf}
 use Rattle.store.specs.View.{inUse}
 use Rattle.desk.specs.Row.{loginRow}
 use Rattle.desk.specs.Obeyed.{kept, Quiet}
@@ -39,49 +42,36 @@ part-set-login-end c =
     let z = c .before .before .before .before .before .before in
     omega (arith, lent-inside (z .args .s .now) (z .pre .0) (z .args .d) (z .pre .1) (c .before .before .row-at .result) (c .before .before .row-at .ensures .0))
 
-returns : tie.Need-returns
+-- where the row is back, and the octets are the password or not
+settled : (c : tie.After-slice-known2) (b : Bool) → c .before .before .before .before .same .result ≡ b → (r : Reply) → r ≡ record { status = cond b 0 0x14; len = 0 }
+    → Quiet Login (c .before .before .before .before .before .before .before .before .before .before .args .d) (c .before .before .before .before .before .before .before .before .before .before .args .body .now) r (c .before .before .before .before .before .before .before .before .before .before .args .s .now)
+    (take (c .before .before .before .before .before .before .row-at .result) (c .before .before .before .before .before .before .before .before .before .before .args .s .now)
+    ++ (c .before .before .set-login .last .0
+    ++ drop (c .before .before .before .before .before .before .row-at .result + rowWidth - c .before .before .before .before .before .before .row-at .result) (drop (c .before .before .before .before .before .before .row-at .result) (c .before .before .before .before .before .before .before .before .before .before .args .s .now))))
 unfolding first ownTests effect Sized
-returns c =
-    let made = c .before .before .before .before .set-login in
-    let equal = c .before .before .before .before .before .before .same in
-    let at = c .before .before .before .before .before .before .before .before .row-at in
-    let z = c .before .before .before .before .before .before .before .before .before .before .before .before in
+settled c b q r p =
+    let made = c .before .before .set-login in
+    let at = c .before .before .before .before .before .before .row-at in
+    let z = c .before .before .before .before .before .before .before .before .before .before in
     let s = z .args .s .now in
     let d = z .args .d in
     let body = z .args .body .now in
     let e = z .pre .0 in
     let h = z .pre .1 in
     let row = rowOf d s in
-    let yes : passwordIs body (kept d s) ≡ true = sym (password-told s e d h (at .result) (at .ensures .0) body (z .pre .2)) ∙ sym (equal .ensures) ∙ c .before .if1 .taken in
-    changed s e d h Login body 0 (c .plain .result) (c .plain .ensures) (withLogin true) (loginRow true row) _
-    (λ i. c .before .before .before .before .before .before .before .before .before .before .before .slice-known .given i .fits)
-    (λ i. c .before .before .before .before .before .before .before .before .before .before .shared-slice-known .given i .fits)
-    tt refl (λ kind. rw yes)
-    (lent-done s e d h (at .result) (at .ensures .0) (loginRow true) (made .last .0) (made .kept .0) (rw (c .before .if1 .taken) at (made .ensures)))
-    (login-length true row ∙ row-size s e d h) (login-flags row (row-size s e d h) (row-flags s e d h) true)
-    (login-means row (row-size s e d h) (recordsOf d (inUse s)) true)
+    let is : passwordIs body (kept d s) ≡ b = sym (password-told s e d h (at .result) (at .ensures .0) body (z .pre .2)) ∙ sym (c .before .before .before .before .same .ensures) ∙ q in
+    changed s e d h Login body (cond b 0 0x14) r p (withLogin b) (loginRow b row) _
+    (λ i. c .before .before .before .before .before .before .before .before .before .slice-known .given i .fits) (λ i. c .before .before .before .before .before .before .before .before .shared-slice-known .given i .fits)
+    tt refl (λ kind. rw is)
+    (lent-done s e d h (at .result) (at .ensures .0) (loginRow b) (made .last .0) (made .kept .0) (rw q at (made .ensures)))
+    (login-length b row ∙ row-size s e d h) (login-flags row (row-size s e d h) (row-flags s e d h) b)
+    (login-means row (row-size s e d h) (recordsOf d (inUse s)) b)
+
+returns : tie.Need-returns
+returns c = settled (c .before .before) true (c .before .if1 .taken) (c .plain .result) (c .plain .ensures)
 
 returns-2 : tie.Need-returns-2
-unfolding first ownTests effect Sized
-returns-2 c =
-    let made = c .before .before .before .before .set-login in
-    let equal = c .before .before .before .before .before .before .same in
-    let at = c .before .before .before .before .before .before .before .before .row-at in
-    let z = c .before .before .before .before .before .before .before .before .before .before .before .before in
-    let s = z .args .s .now in
-    let d = z .args .d in
-    let body = z .args .body .now in
-    let e = z .pre .0 in
-    let h = z .pre .1 in
-    let row = rowOf d s in
-    let no : passwordIs body (kept d s) ≡ false = sym (password-told s e d h (at .result) (at .ensures .0) body (z .pre .2)) ∙ sym (equal .ensures) ∙ c .before .if1 .left in
-    changed s e d h Login body 0x14 (c .plain2 .result) (c .plain2 .ensures) (withLogin false) (loginRow false row) _
-    (λ i. c .before .before .before .before .before .before .before .before .before .before .before .slice-known .given i .fits)
-    (λ i. c .before .before .before .before .before .before .before .before .before .before .shared-slice-known .given i .fits)
-    tt refl (λ kind. rw no)
-    (lent-done s e d h (at .result) (at .ensures .0) (loginRow false) (made .last .0) (made .kept .0) (rw (c .before .if1 .left) at (made .ensures)))
-    (login-length false row ∙ row-size s e d h) (login-flags row (row-size s e d h) (row-flags s e d h) false)
-    (login-means row (row-size s e d h) (recordsOf d (inUse s)) false)
+returns-2 c = settled (c .before .before) false (c .before .if1 .left) (c .plain2 .result) (c .plain2 .ensures)
 
 pub login-spec : {M : Type 1} → statement M
 login-spec =

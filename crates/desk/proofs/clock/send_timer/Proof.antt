@@ -1,16 +1,13 @@
 -- `desk::clock::send_timer` meets its contract: the four octets of the timer, where the row has them. Assumes nothing.
-use mathlib.Core.Path.{refl, ap, _∙_}
-use mathlib.Core.List.{List}
-use Prim.Native.Nat.{ℕ}
+use mathlib.Core.Path.{refl, _∙_}
 use native.Mathlib.Omega.{arith}
 use borrow.Author.Needs.{needs}
 use Rattle.octets.specs.Tests.{first}
-use Rattle.octets.specs.Parts.{put}
 use Rattle.timer.specs.Clock.{timerOctets}
 use Rattle.timer.proofs.ReadBack.{timer-length}
 use Rattle.rules.specs.declared.Command.the-variants.{SendTimer}
 use Rattle.rules.specs.Command.{ownTests, effect}
-use Rattle.desk.specs.Obeyed.{kept, dataAt}
+use Rattle.desk.specs.Obeyed.{kept}
 use Rattle.desk.proofs.LentRow.{sound-size, lent-inside}
 use Rattle.desk.proofs.Told.{timer-told}
 use Rattle.desk.proofs.Answers.{told}

@@ -1,143 +1,147 @@
+-- `desk::config::restore` meets its contract: the named block, or all, to defaults. Assumes nothing.
+use Prim.Native.Nat.{_<_}
+use mathlib.Core.Path.{_≡_, sym, _∙_}
+use mathlib.Core.Bool.{true, false}
+use native.Mathlib.Omega.{arith}
+use lib.ListN.{length, getD}
 use borrow.Author.Needs.{needs}
+use Rattle.octets.specs.Tests.{first}
+use Rattle.octets.proofs.Tests.{passed, failed}
+use Rattle.table.specs.Entries.{recordsOf}
+use Rattle.rules.specs.declared.Command.the-variants.{RestoreBlocks}
+use Rattle.rules.specs.Config.{blockAt, written, inEeprom, allBlocks, blockOf, namesSome, copied, defaults}
+use Rattle.rules.specs.Desk.{Desk, memoryOf, withMemory}
+use Rattle.rules.specs.Command.{ownTests, done, effect}
+use Rattle.rules.proofs.Legality.{Sized}
+use Rattle.rules.proofs.Memories.{length-block, defaults-legal}
+use Rattle.store.specs.Layout.{rowOf}
+use Rattle.store.specs.View.{inUse}
+use Rattle.desk.specs.Row.{writtenRow, defaultRow}
+use Rattle.desk.specs.Obeyed.{kept}
+use Rattle.desk.proofs.Doing.{row-size, row-flags}
+use Rattle.desk.proofs.LentRow.{sound-size, lent-inside, lent-size, lent-done}
+use Rattle.desk.proofs.NamedBlocks.{named-below}
+use Rattle.desk.proofs.Lengths.{written-length, default-length}
+use Rattle.desk.proofs.Flagged.{written-flags, default-flags}
+use Rattle.desk.proofs.Meaning.{written-means, default-means}
+use Rattle.desk.proofs.Answers.{refused, changed}
 use Rattle.desk.proofs.config.restore.Statement.{statement}
 use Rattle.desk.proofs.config.restore.Tie as tie
-use Rattle.desk.proofs.config.restore.Reads as reads
-use Rattle.desk.proofs.config.restore.Lts as lts
-use Rattle.desk.proofs.config.all_blocks.Reads as all-blocks-reads
-use Rattle.desk.proofs.config.block_of.Reads as block-of-reads
-use Rattle.desk.proofs.config.in_eeprom.Reads as in-eeprom-reads
-use Rattle.desk.proofs.config.names_some.Reads as names-some-reads
-use Rattle.desk.proofs.plain.Reads as plain-reads
-use Rattle.desk.proofs.row.restore_all.Reads as restore-all-reads
-use Rattle.desk.proofs.row.restore_block.Reads as restore-block-reads
-use Rattle.store.proofs.row_at.Reads as row-at-reads
 
--- src/config.rt:152:15
-shared-slice-read-adr : tie.Need-shared-slice-read-adr
-shared-slice-read-adr c = search needs
+-- the data name a block or all
+named : (c : tie.Else1) → namesSome (getD (c .before .before .before .before .before .args .body .now) 0 0) ≡ true
+named c = passed (c .before .names-some .ensures) (c .if1 .left)
 
--- src/config.rt:153:9
-names-some-requires : tie.Need-names-some-requires
-names-some-requires c κs = search needs
-
--- src/config.rt:154:9
-plain-requires : tie.Need-plain-requires
-plain-requires c κs = search needs
-
--- src/config.rt:154:9
 returns : tie.Need-returns
-returns c = ?
+unfolding first ownTests
+returns c =
+    let z = c .before .before .before .before .before .before in
+    refused (z .args .s .now) (z .pre .0) (z .args .d) (z .pre .1) RestoreBlocks (z .args .body .now) 0x11 (c .plain .result) (c .plain .ensures)
+    (rw (failed (c .before .before .names-some .ensures) (c .before .if1 .taken)))
 
--- src/config.rt:156:9
 row-at-requires : tie.Need-row-at-requires
-row-at-requires c κs = ?
+row-at-requires c κs =
+    let z = c .before .before .before .before .before .before in
+    (z .pre .1, omega (arith, sound-size (z .args .s .now) (z .pre .0)))
 
--- src/config.rt:157:8
-all-blocks-requires : tie.Need-all-blocks-requires
-all-blocks-requires c κs = search needs
-
--- src/config.rt:158:37
-add-restore-all : tie.Need-add-restore-all
-add-restore-all c = search needs
-
--- src/config.rt:158:26
-sub-restore-all : tie.Need-sub-restore-all
-sub-restore-all c = search needs
-
--- src/config.rt:158:26
-part-restore-all-start : tie.Need-part-restore-all-start
-part-restore-all-start c = search needs
-
--- src/config.rt:158:26
 part-restore-all-end : tie.Need-part-restore-all-end
-part-restore-all-end c = ?
+part-restore-all-end c =
+    let z = c .before .before .before .before .before .before .before .before .before in
+    let at = c .before .before .row-at in
+    omega (arith, lent-inside (z .args .s .now) (z .pre .0) (z .args .d) (z .pre .1) (at .result) (at .ensures .0))
 
--- src/config.rt:158:55
-in-eeprom-requires : tie.Need-in-eeprom-requires
-in-eeprom-requires c κs = search needs
-
--- src/config.rt:158:9
-restore-all-requires : tie.Need-restore-all-requires
-restore-all-requires c κs = search needs
-
--- src/config.rt:159:9
-plain-requires-2 : tie.Need-plain-requires-2
-plain-requires-2 c κs = search needs
-
--- src/config.rt:159:9
-same-length : tie.Need-same-length
-same-length c = search needs
-
--- src/config.rt:159:9
 returns-2 : tie.Need-returns-2
-returns-2 c = ?
+unfolding first ownTests effect done copied Sized
+returns-2 c =
+    let made = c .before .before .before .restore-all in
+    let at = c .before .before .before .before .before .before .before .before .row-at in
+    let z = c .before .before .before .before .before .before .before .before .before .before .before .before .before .before .before in
+    let s = z .args .s .now in
+    let d = z .args .d in
+    let body = z .args .body .now in
+    let e = z .pre .0 in
+    let h = z .pre .1 in
+    let row = rowOf d s in
+    let eeprom = inEeprom (getD body 0 0) in
+    let every : allBlocks (getD body 0 0) ≡ true = sym (c .before .before .before .before .before .before .before .all-blocks .ensures) ∙ c .before .before .before .before .before .before .if2 .taken in
+    changed s e d h RestoreBlocks body 0 (c .plain2 .result) (c .plain2 .ensures) (withMemory eeprom defaults) (defaultRow eeprom row) _
+    (λ i. c .before .before .before .before .before .before .before .before .before .before .before .before .before .before .slice-known .given i .fits) (λ i. c .before .before .before .before .before .before .before .before .before .before .before .before .before .shared-slice-known .given i .fits)
+    tt (rw (named (c .before .before .before .before .before .before .before .before .before .before))) (λ kind. rw every)
+    (lent-done s e d h (at .result) (at .ensures .0) (defaultRow eeprom) (made .last .0) (made .kept .0) (rw (c .before .before .before .before .in-eeprom .ensures) at (made .ensures)))
+    (default-length eeprom row ∙ row-size s e d h)
+    (default-flags row (row-size s e d h) (row-flags s e d h) eeprom)
+    (default-means row (row-size s e d h) (recordsOf d (inUse s)) eeprom)
 
--- src/config.rt:161:35
-add-restore-block : tie.Need-add-restore-block
-add-restore-block c = search needs
-
--- src/config.rt:161:24
-sub-restore-block : tie.Need-sub-restore-block
-sub-restore-block c = search needs
-
--- src/config.rt:161:24
-part-restore-block-start : tie.Need-part-restore-block-start
-part-restore-block-start c = search needs
-
--- src/config.rt:161:24
 part-restore-block-end : tie.Need-part-restore-block-end
-part-restore-block-end c = ?
+part-restore-block-end c =
+    let z = c .before .before .before .before .before .before .before .before .before in
+    let at = c .before .before .row-at in
+    omega (arith, lent-inside (z .args .s .now) (z .pre .0) (z .args .d) (z .pre .1) (at .result) (at .ensures .0))
 
--- src/config.rt:161:53
-in-eeprom-requires-2 : tie.Need-in-eeprom-requires-2
-in-eeprom-requires-2 c κs = search needs
+-- where all-blocks is not named, the block exists
+below : (c : tie.Else2) → blockOf (getD (c .before .before .before .before .before .before .before .before .before .args .body .now) 0 0) < 16
+below c = named-below _ (named (c .before .before .before .before)) (sym (c .before .all-blocks .ensures) ∙ c .if2 .left)
 
--- src/config.rt:161:69
-block-of-requires : tie.Need-block-of-requires
-block-of-requires c κs = search needs
-
--- src/config.rt:161:5
 restore-block-requires : tie.Need-restore-block-requires
-restore-block-requires c κs = ?
+restore-block-requires c κs =
+    let z = c .before .before .before .before .before .before .before .before .before .before .before .before in
+    let at = c .before .before .before .before .before .row-at in
+    (lent-size (z .args .s .now) (z .pre .0) (z .args .d) (z .pre .1) (at .result) (at .ensures .0), rw (c .block-of .ensures .0) (below (c .before .before .before)))
 
--- src/config.rt:162:5
-plain-requires-3 : tie.Need-plain-requires-3
-plain-requires-3 c κs = search needs
-
--- src/config.rt:148:1
-same-length-2 : tie.Need-same-length-2
-same-length-2 c = search needs
-
--- src/config.rt:148:1
 returns-3 : tie.Need-returns-3
-returns-3 c = ?
+unfolding first ownTests effect done copied Sized
+returns-3 c =
+    let made = c .before .before .before .restore-block in
+    let at = c .before .before .before .before .before .before .before .before .before .row-at in
+    let z = c .before .before .before .before .before .before .before .before .before .before .before .before .before .before .before .before in
+    let s = z .args .s .now in
+    let d = z .args .d in
+    let body = z .args .body .now in
+    let e = z .pre .0 in
+    let h = z .pre .1 in
+    let row = rowOf d s in
+    let eeprom = inEeprom (getD body 0 0) in
+    let k = blockOf (getD body 0 0) in
+    let bytes = blockAt k defaults in
+    let one : allBlocks (getD body 0 0) ≡ false = sym (c .before .before .before .before .before .before .before .before .all-blocks .ensures) ∙ c .before .before .before .before .before .before .before .if2 .left in
+    let small : k < 16 = below (c .before .before .before .before .before .before .before) in
+    let size : length bytes ≡ 14 = length-block defaults defaults-legal k small in
+    changed s e d h RestoreBlocks body 0 (c .plain3 .result) (c .plain3 .ensures)
+    (λ (x : Desk). withMemory eeprom (written k bytes (memoryOf eeprom x)) x) (writtenRow eeprom k bytes row) _
+    (λ i. c .before .before .before .before .before .before .before .before .before .before .before .before .before .before .before .slice-known .given i .fits) (λ i. c .before .before .before .before .before .before .before .before .before .before .before .before .before .before .shared-slice-known .given i .fits)
+    tt (rw (named (c .before .before .before .before .before .before .before .before .before .before .before))) (λ kind. rw one)
+    (lent-done s e d h (at .result) (at .ensures .0) (writtenRow eeprom k bytes) (made .last .0) (made .kept .0)
+    (rw (c .before .before .before .before .before .in-eeprom2 .ensures, c .before .before .before .before .block-of .ensures .0) at (made .ensures)))
+    (written-length eeprom k bytes row ∙ row-size s e d h)
+    (written-flags row (row-size s e d h) (row-flags s e d h) eeprom k bytes small size)
+    (written-means row (row-size s e d h) (recordsOf d (inUse s)) eeprom k bytes small size)
 
 pub restore-spec : {M : Type 1} → statement M
 restore-spec =
     tie.close
     (tie.spec
-    shared-slice-read-adr
-    names-some-requires
-    plain-requires
+    (λ c. search needs)
+    (λ c κs. search needs)
+    (λ c κs. search needs)
     returns
     row-at-requires
-    all-blocks-requires
-    add-restore-all
-    sub-restore-all
-    part-restore-all-start
+    (λ c κs. search needs)
+    (λ c. search needs)
+    (λ c. search needs)
+    (λ c. search needs)
     part-restore-all-end
-    in-eeprom-requires
-    restore-all-requires
-    plain-requires-2
-    same-length
+    (λ c κs. search needs)
+    (λ c κs. search needs)
+    (λ c κs. search needs)
+    (λ c. search needs)
     returns-2
-    add-restore-block
-    sub-restore-block
-    part-restore-block-start
+    (λ c. search needs)
+    (λ c. search needs)
+    (λ c. search needs)
     part-restore-block-end
-    in-eeprom-requires-2
-    block-of-requires
+    (λ c κs. search needs)
+    (λ c κs. search needs)
     restore-block-requires
-    plain-requires-3
-    same-length-2
+    (λ c κs. search needs)
+    (λ c. search needs)
     returns-3)

@@ -1,148 +1,153 @@
+-- `desk::config::save` meets its contract: the named block, or all, from RAM to EEPROM. Assumes nothing.
+use Prim.Native.Nat.{_<_}
+use mathlib.Core.Path.{_≡_, sym, _∙_}
+use mathlib.Core.Bool.{true, false}
+use native.Mathlib.Omega.{arith}
+use lib.ListN.{getD}
 use borrow.Author.Needs.{needs}
+use Rattle.octets.specs.Tests.{first}
+use Rattle.octets.proofs.Tests.{passed, failed}
+use Rattle.table.specs.Entries.{recordsOf}
+use Rattle.rules.specs.declared.Command.the-variants.{SaveBlocks}
+use Rattle.rules.specs.Config.{blockAt, written, inEeprom, allBlocks, blockOf, namesSome, copied}
+use Rattle.rules.specs.Desk.{Desk, withMemory}
+use Rattle.rules.specs.Command.{ownTests, done, effect}
+use Rattle.rules.proofs.Legality.{Sized}
+use Rattle.store.specs.Layout.{rowOf}
+use Rattle.store.specs.View.{inUse}
+use Rattle.desk.specs.Row.{savedRow, allSavedRow}
+use Rattle.desk.specs.Obeyed.{kept}
+use Rattle.desk.proofs.Doing.{row-size, row-flags}
+use Rattle.desk.proofs.LentRow.{sound-size, lent-inside, lent-size, lent-done}
+use Rattle.desk.proofs.NamedBlocks.{named-below}
+use Rattle.desk.proofs.Lengths.{saved-length, all-saved-length}
+use Rattle.desk.proofs.Flagged.{saved-flags, all-saved-flags}
+use Rattle.desk.proofs.Meaning.{saved-means, all-saved-means}
+use Rattle.desk.proofs.Answers.{refused, changed}
 use Rattle.desk.proofs.config.save.Statement.{statement}
 use Rattle.desk.proofs.config.save.Tie as tie
-use Rattle.desk.proofs.config.save.Reads as reads
-use Rattle.desk.proofs.config.save.Lts as lts
-use Rattle.desk.proofs.config.all_blocks.Reads as all-blocks-reads
-use Rattle.desk.proofs.config.block_of.Reads as block-of-reads
-use Rattle.desk.proofs.config.in_eeprom.Reads as in-eeprom-reads
-use Rattle.desk.proofs.config.names_some.Reads as names-some-reads
-use Rattle.desk.proofs.plain.Reads as plain-reads
-use Rattle.desk.proofs.row.save_all.Reads as save-all-reads
-use Rattle.desk.proofs.row.save_block.Reads as save-block-reads
-use Rattle.store.proofs.row_at.Reads as row-at-reads
 
--- src/config.rt:131:15
-shared-slice-read-adr : tie.Need-shared-slice-read-adr
-shared-slice-read-adr c = search needs
+-- the data name a block or all, and not EEPROM
+in-ram : (c : tie.Else1) → inEeprom (getD (c .before .before .before .before .before .args .body .now) 0 0) ≡ false
+in-ram c = sym (c .before .in-eeprom .ensures) ∙ c .if1 .left
 
--- src/config.rt:132:8
-in-eeprom-requires : tie.Need-in-eeprom-requires
-in-eeprom-requires c κs = search needs
+named : (c : tie.Else2) → namesSome (getD (c .before .before .before .before .before .before .before .args .body .now) 0 0) ≡ true
+named c = passed (c .before .names-some .ensures) (c .if2 .left)
 
--- src/config.rt:133:9
-plain-requires : tie.Need-plain-requires
-plain-requires c κs = search needs
-
--- src/config.rt:133:9
 returns : tie.Need-returns
-returns c = ?
+unfolding first ownTests
+returns c =
+    let z = c .before .before .before .before .before .before in
+    refused (z .args .s .now) (z .pre .0) (z .args .d) (z .pre .1) SaveBlocks (z .args .body .now) 0x11 (c .plain .result) (c .plain .ensures)
+    (rw (sym (c .before .before .in-eeprom .ensures) ∙ c .before .if1 .taken))
 
--- src/config.rt:135:9
-names-some-requires : tie.Need-names-some-requires
-names-some-requires c κs = search needs
-
--- src/config.rt:136:9
-plain-requires-2 : tie.Need-plain-requires-2
-plain-requires-2 c κs = search needs
-
--- src/config.rt:136:9
 returns-2 : tie.Need-returns-2
-returns-2 c = ?
+unfolding first ownTests
+returns-2 c =
+    let z = c .before .before .before .before .before .before .before .before in
+    refused (z .args .s .now) (z .pre .0) (z .args .d) (z .pre .1) SaveBlocks (z .args .body .now) 0x11 (c .plain2 .result) (c .plain2 .ensures)
+    (rw (in-ram (c .before .before .before), failed (c .before .before .names-some .ensures) (c .before .if2 .taken)))
 
--- src/config.rt:138:9
 row-at-requires : tie.Need-row-at-requires
-row-at-requires c κs = ?
+row-at-requires c κs =
+    let z = c .before .before .before .before .before .before .before .before in
+    (z .pre .1, omega (arith, sound-size (z .args .s .now) (z .pre .0)))
 
--- src/config.rt:139:8
-all-blocks-requires : tie.Need-all-blocks-requires
-all-blocks-requires c κs = search needs
-
--- src/config.rt:140:34
-add-save-all : tie.Need-add-save-all
-add-save-all c = search needs
-
--- src/config.rt:140:23
-sub-save-all : tie.Need-sub-save-all
-sub-save-all c = search needs
-
--- src/config.rt:140:23
-part-save-all-start : tie.Need-part-save-all-start
-part-save-all-start c = search needs
-
--- src/config.rt:140:23
 part-save-all-end : tie.Need-part-save-all-end
-part-save-all-end c = ?
+part-save-all-end c =
+    let z = c .before .before .before .before .before .before .before .before .before .before .before in
+    let at = c .before .before .row-at in
+    omega (arith, lent-inside (z .args .s .now) (z .pre .0) (z .args .d) (z .pre .1) (at .result) (at .ensures .0))
 
--- src/config.rt:140:9
-save-all-requires : tie.Need-save-all-requires
-save-all-requires c κs = search needs
-
--- src/config.rt:141:9
-plain-requires-3 : tie.Need-plain-requires-3
-plain-requires-3 c κs = search needs
-
--- src/config.rt:141:9
-same-length : tie.Need-same-length
-same-length c = search needs
-
--- src/config.rt:141:9
 returns-3 : tie.Need-returns-3
-returns-3 c = ?
+unfolding first ownTests effect done copied Sized
+returns-3 c =
+    let made = c .before .before .before .save-all in
+    let at = c .before .before .before .before .before .before .before .row-at in
+    let z = c .before .before .before .before .before .before .before .before .before .before .before .before .before .before .before .before in
+    let s = z .args .s .now in
+    let d = z .args .d in
+    let body = z .args .body .now in
+    let e = z .pre .0 in
+    let h = z .pre .1 in
+    let row = rowOf d s in
+    let every : allBlocks (getD body 0 0) ≡ true = sym (c .before .before .before .before .before .before .all-blocks .ensures) ∙ c .before .before .before .before .before .if3 .taken in
+    changed s e d h SaveBlocks body 0 (c .plain3 .result) (c .plain3 .ensures)
+    (λ (x : Desk). withMemory true (x .ram) x) (allSavedRow row) _
+    (λ i. c .before .before .before .before .before .before .before .before .before .before .before .before .before .before .before .slice-known .given i .fits) (λ i. c .before .before .before .before .before .before .before .before .before .before .before .before .before .before .shared-slice-known .given i .fits)
+    tt (rw (in-ram (c .before .before .before .before .before .before .before .before .before .before .before), named (c .before .before .before .before .before .before .before .before .before))) (λ kind. rw every)
+    (lent-done s e d h (at .result) (at .ensures .0) allSavedRow (made .last .0) (made .kept .0) (made .ensures))
+    (all-saved-length row ∙ row-size s e d h)
+    (all-saved-flags row (row-size s e d h) (row-flags s e d h))
+    (all-saved-means row (row-size s e d h) (recordsOf d (inUse s)))
 
--- src/config.rt:143:32
-add-save-block : tie.Need-add-save-block
-add-save-block c = search needs
-
--- src/config.rt:143:21
-sub-save-block : tie.Need-sub-save-block
-sub-save-block c = search needs
-
--- src/config.rt:143:21
-part-save-block-start : tie.Need-part-save-block-start
-part-save-block-start c = search needs
-
--- src/config.rt:143:21
 part-save-block-end : tie.Need-part-save-block-end
-part-save-block-end c = ?
+part-save-block-end c =
+    let z = c .before .before .before .before .before .before .before .before .before .before .before in
+    let at = c .before .before .row-at in
+    omega (arith, lent-inside (z .args .s .now) (z .pre .0) (z .args .d) (z .pre .1) (at .result) (at .ensures .0))
 
--- src/config.rt:143:50
-block-of-requires : tie.Need-block-of-requires
-block-of-requires c κs = search needs
+-- where all-blocks is not named, the block exists
+below : (c : tie.Else3) → blockOf (getD (c .before .before .before .before .before .before .before .before .before .before .before .args .body .now) 0 0) < 16
+below c = named-below _ (named (c .before .before .before .before)) (sym (c .before .all-blocks .ensures) ∙ c .if3 .left)
 
--- src/config.rt:143:5
 save-block-requires : tie.Need-save-block-requires
-save-block-requires c κs = ?
+save-block-requires c κs =
+    let z = c .before .before .before .before .before .before .before .before .before .before .before .before .before in
+    let at = c .before .before .before .before .row-at in
+    (lent-size (z .args .s .now) (z .pre .0) (z .args .d) (z .pre .1) (at .result) (at .ensures .0), rw (c .block-of .ensures .0) (below (c .before .before)))
 
--- src/config.rt:144:5
-plain-requires-4 : tie.Need-plain-requires-4
-plain-requires-4 c κs = search needs
-
--- src/config.rt:127:1
-same-length-2 : tie.Need-same-length-2
-same-length-2 c = search needs
-
--- src/config.rt:127:1
 returns-4 : tie.Need-returns-4
-returns-4 c = ?
+unfolding first ownTests effect done copied Sized
+returns-4 c =
+    let made = c .before .before .before .save-block in
+    let at = c .before .before .before .before .before .before .before .before .row-at in
+    let z = c .before .before .before .before .before .before .before .before .before .before .before .before .before .before .before .before .before in
+    let s = z .args .s .now in
+    let d = z .args .d in
+    let body = z .args .body .now in
+    let e = z .pre .0 in
+    let h = z .pre .1 in
+    let row = rowOf d s in
+    let k = blockOf (getD body 0 0) in
+    let one : allBlocks (getD body 0 0) ≡ false = sym (c .before .before .before .before .before .before .before .all-blocks .ensures) ∙ c .before .before .before .before .before .before .if3 .left in
+    let small : k < 16 = below (c .before .before .before .before .before .before) in
+    changed s e d h SaveBlocks body 0 (c .plain4 .result) (c .plain4 .ensures)
+    (λ (x : Desk). withMemory true (written k (blockAt k (x .ram)) (x .eeprom)) x) (savedRow k row) _
+    (λ i. c .before .before .before .before .before .before .before .before .before .before .before .before .before .before .before .before .slice-known .given i .fits) (λ i. c .before .before .before .before .before .before .before .before .before .before .before .before .before .before .before .shared-slice-known .given i .fits)
+    tt (rw (in-ram (c .before .before .before .before .before .before .before .before .before .before .before .before), named (c .before .before .before .before .before .before .before .before .before .before))) (λ kind. rw one)
+    (lent-done s e d h (at .result) (at .ensures .0) (savedRow k) (made .last .0) (made .kept .0) (rw (c .before .before .before .before .block-of .ensures .0) at (made .ensures)))
+    (saved-length k row ∙ row-size s e d h)
+    (saved-flags row (row-size s e d h) (row-flags s e d h) k small)
+    (saved-means row (row-size s e d h) (recordsOf d (inUse s)) k small)
 
 pub save-spec : {M : Type 1} → statement M
 save-spec =
     tie.close
     (tie.spec
-    shared-slice-read-adr
-    in-eeprom-requires
-    plain-requires
+    (λ c. search needs)
+    (λ c κs. search needs)
+    (λ c κs. search needs)
     returns
-    names-some-requires
-    plain-requires-2
+    (λ c κs. search needs)
+    (λ c κs. search needs)
     returns-2
     row-at-requires
-    all-blocks-requires
-    add-save-all
-    sub-save-all
-    part-save-all-start
+    (λ c κs. search needs)
+    (λ c. search needs)
+    (λ c. search needs)
+    (λ c. search needs)
     part-save-all-end
-    save-all-requires
-    plain-requires-3
-    same-length
+    (λ c κs. search needs)
+    (λ c κs. search needs)
+    (λ c. search needs)
     returns-3
-    add-save-block
-    sub-save-block
-    part-save-block-start
+    (λ c. search needs)
+    (λ c. search needs)
+    (λ c. search needs)
     part-save-block-end
-    block-of-requires
+    (λ c κs. search needs)
     save-block-requires
-    plain-requires-4
-    same-length-2
+    (λ c κs. search needs)
+    (λ c. search needs)
     returns-4)

@@ -1,78 +1,64 @@
+-- `desk::config::tell_block` meets its contract: the block where the store has it. Assumes nothing.
+use mathlib.Core.Path.{_≡_, ap, _∙_}
+use native.Mathlib.Omega.{arith}
 use borrow.Author.Needs.{needs}
+use Rattle.rules.specs.Config.{blockAt}
+use Rattle.rules.specs.Desk.{memoryOf}
+use Rattle.desk.specs.Obeyed.{kept}
+use Rattle.desk.proofs.LentRow.{sound-size, lent-inside}
+use Rattle.desk.proofs.Told.{memory-told, block-length}
 use Rattle.desk.proofs.config.tell_block.Statement.{statement}
 use Rattle.desk.proofs.config.tell_block.Tie as tie
-use Rattle.desk.proofs.config.tell_block.Reads as reads
-use Rattle.desk.proofs.config.tell_block.Lts as lts
-use Rattle.desk.proofs.config.block.Reads as block-reads
-use Rattle.octets.proofs.copy_to.Reads as copy-to-reads
-use Rattle.store.proofs.row_at.Reads as row-at-reads
 
--- src/config.rt:74:9
 row-at-requires : tie.Need-row-at-requires
-row-at-requires c κs = ?
+row-at-requires c κs =
+    let z = c .before .before in
+    (z .pre .1, omega (arith, sound-size (z .args .s .now) (z .pre .0)))
 
--- src/config.rt:75:18
-add-eeprom : tie.Need-add-eeprom
-add-eeprom c = search needs
-
--- src/config.rt:76:15
-add-end : tie.Need-add-end
-add-end c = search needs
-
--- src/config.rt:77:36
-sub-block : tie.Need-sub-block
-sub-block c = search needs
-
--- src/config.rt:77:36
-part-block-start : tie.Need-part-block-start
-part-block-start c = search needs
-
--- src/config.rt:77:36
 part-block-end : tie.Need-part-block-end
-part-block-end c = ?
+part-block-end c =
+    let z = c .before .before .before .before in
+    let at = c .before .row-at in
+    omega (arith, lent-inside (z .args .s .now) (z .pre .0) (z .args .d) (z .pre .1) (at .result) (at .ensures .0))
 
--- src/config.rt:77:53
-sub-block-2 : tie.Need-sub-block-2
-sub-block-2 c = search needs
-
--- src/config.rt:77:53
-part-block-start-2 : tie.Need-part-block-start-2
-part-block-start-2 c = search needs
-
--- src/config.rt:77:53
 part-block-end-2 : tie.Need-part-block-end-2
-part-block-end-2 c = ?
+part-block-end-2 c =
+    let z = c .before .before .before .before .before in
+    let at = c .before .before .row-at in
+    omega (arith, lent-inside (z .args .s .now) (z .pre .0) (z .args .d) (z .pre .1) (at .result) (at .ensures .0))
 
--- src/config.rt:77:30
-block-requires : tie.Need-block-requires
-block-requires c κs = search needs
+-- the block that is lent is the desk's
+found : (c : tie.After-block)
+    → c .block .result .now
+    ≡ blockAt (c .before .before .before .before .before .before .before .args .k) (memoryOf (c .before .before .before .before .before .before .before .args .loc) (kept (c .before .before .before .before .before .before .before .args .d) (c .before .before .before .before .before .before .before .args .s .now)))
+found c =
+    let z = c .before .before .before .before .before .before .before in
+    let at = c .before .before .before .before .row-at in
+    c .block .ensures ∙ ap (blockAt (z .args .k)) (memory-told (z .args .s .now) (z .pre .0) (z .args .d) (z .pre .1) (at .result) (at .ensures .0) (z .args .loc))
 
--- src/config.rt:77:5
 copy-to-requires : tie.Need-copy-to-requires
-copy-to-requires c κs = ?
+copy-to-requires c κs =
+    let z = c .before .before .before .before .before .before .before in
+    let size = block-length (z .args .s .now) (z .pre .0) (z .args .d) (z .pre .1) (λ i. c .before .before .before .before .before .before .shared-slice-known .given i .fits) (z .args .loc) (z .args .k) (z .pre .2) in
+    rw (found c) (omega (arith, size, z .pre .3))
 
--- src/config.rt:70:1
-same-length : tie.Need-same-length
-same-length c = search needs
-
--- src/config.rt:70:1
 returns : tie.Need-returns
-returns c = ?
+returns c = c .before .before .copy-to .ensures ∙ rw (found (c .before .before .before))
 
 pub tell-block-spec : {M : Type 1} → statement M
 tell-block-spec =
     tie.close
     (tie.spec
     row-at-requires
-    add-eeprom
-    add-end
-    sub-block
-    part-block-start
+    (λ c. search needs)
+    (λ c. search needs)
+    (λ c. search needs)
+    (λ c. search needs)
     part-block-end
-    sub-block-2
-    part-block-start-2
+    (λ c. search needs)
+    (λ c. search needs)
     part-block-end-2
-    block-requires
+    (λ c κs. search needs)
     copy-to-requires
-    same-length
+    (λ c. search needs)
     returns)
