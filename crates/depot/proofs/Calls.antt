@@ -11,10 +11,14 @@ use Rattle.octets.specs.Tests.{first}
 use Rattle.octets.specs.Parts.{put}
 use Rattle.octets.specs.Numbers.{Octets}
 use Rattle.frame.specs.declared.Way.the-variants.{Request, Reply}
+use Rattle.frame.specs.declared.Frame.{Frame}
+use Rattle.frame.specs.declared.Judged.the-variants.{Sound}
+use Rattle.frame.specs.declared.Sealed.the-variants.{Octets as Octets′, Not}
+use Rattle.frame.proofs.Verdict.{sound-parts}
 use Rattle.frame.specs.declared.Refusal.{Refusal}
 use Rattle.frame.specs.declared.Refusal.the-variants.{Unsound}
 use Rattle.frame.specs.Shape.{shapeOf, overhead}
-use Rattle.frame.specs.Judged.{dataOf}
+use Rattle.frame.specs.Judged.{judged, dataOf}
 use Rattle.frame.specs.Sealed.{frameOf, sealedAs, replyIn}
 use Rattle.rules.specs.Control.{known}
 use Rattle.rules.specs.Command.{Result, answered}
@@ -29,6 +33,8 @@ use Rattle.desk.proofs.Doing.{kept-legal}
 use Rattle.rules.specs.declared.Seen.{Seen}
 use Rattle.depot.specs.declared.Answer.{Answer}
 use Rattle.depot.specs.declared.Answer.the-variants.{Refused, Reply as Replied, Sighted, Done}
+use Rattle.depot.proofs.Refused.{accepted}
+use Rattle.depot.proofs.Replying.{reply-size, reply-octets}
 use Rattle.depot.specs.Called.{stepOn, Ended, Called}
 
 -- ---- refused
@@ -48,14 +54,34 @@ sighting-refused n uid mask r s out q e = record { ended = rw (q, e) (refl, (ref
 -- ---- answered
 
 -- a reply: what the desk's command left, sealed
-pub frame-answered : (f : List ℕ) (s s′ out out′ out″ : List ℕ) (a : Answer) → sound s ≡ true → first (frameRefusals f (length out)) ≡ none
-    → let p = request f in let res = answered (p .kind) (kept (p .address) s) (p .control) (dataOf p f) in
-    Says (p .address) (res .desk) s s′
-    → out″ ≡ put 0 (frameOf (p .kind) (p .address) (p .control) (res .status ∷ res .sent)) out
-    → a ≡ Replied (length (frameOf (p .kind) (p .address) (p .control) (res .status ∷ res .sent)))
-    → Called (frame f (length out)) s out a s′ out″
-unfolding stepOn step unlessRefused placed served
-frame-answered f s s′ out out′ out″ a q e y o r = record { ended = rw (q, e) (r, o, (y .still, y .view-is)) }
+module _ (f s s′ out out′ body : List ℕ) (p : Frame) (r : DeskReply) (q : sound s ≡ true) (octets : Octets s) (is : judged Request f ≡ Sound p) (room : 842 ≤ length out)
+    (low : p .address ≤ 7) (same : body ≡ dataOf p f)
+    (y : Obeyed (p .address) (p .kind) (answered (p .kind) (kept (p .address) s) (p .control) body) r s s′ out out′) where
+  abbrev res : Result
+  res = answered (p .kind) (kept (p .address) s) (p .control) body
+
+  small : overhead Reply (p .kind) + length (res .sent) ≤ shapeOf (p .kind) .longest
+  unfolding answered
+  small = obey-carried (known (p .control)) (p .kind) (kept (p .address) s) body (kept-legal s q (p .address) (omega arith) octets) .small
+
+  whole : sealedAs Reply (p .kind) (r .len) out′ ≡ Octets′ (length (frameOf (p .kind) (p .address) (p .control) (res .status ∷ res .sent)))
+  whole = rw (y .done .len-is) (reply-size (p .kind) (p .address) (p .control) (res .status) (res .sent) out out′ room small (y .out-is))
+
+  pub frame-sealed : sealedAs Reply (p .kind) (r .len) out′ ≡ Not → ⊥
+  frame-sealed e = let z : _≡_ {A = ℕ} 0 1 = cc whole in omega arith
+
+  pub frame-replied : (n : ℕ) (out″ : List ℕ) → sealedAs Reply (p .kind) (r .len) out′ ≡ Octets′ n
+      → out″ ≡ replyIn (p .kind) (p .address) (p .control) (r .status) (r .len) out′ → Called (frame f (length out)) s out (Replied n) s′ out″
+  unfolding stepOn step unlessRefused placed served request
+  frame-replied n out″ e o =
+      let size : n ≡ length (frameOf (p .kind) (p .address) (p .control) (res .status ∷ res .sent)) = cc whole in
+      let made : out″ ≡ put 0 (frameOf (p .kind) (p .address) (p .control) (res .status ∷ res .sent)) out =
+      o ∙ rw (y .done .len-is, y .done .status-is) (reply-octets (p .kind) (p .address) (p .control) (res .status) (res .sent) out out′ room small (y .out-is)) in
+      record {
+        ended =
+            rw (q, accepted f (length out) room p is low, ← sound-parts Request f p is, ← same)
+            (ap Replied size, made, (y .done .says .still, y .done .says .view-is));
+      }
 
 pub sighting-answered : (n uid mask : ℕ) (w : Seen) (s s′ out : List ℕ) → sound s ≡ true → first (sightingRefusals n mask) ≡ none → DeskSighted n uid mask w s s′
     → Called (sighting n uid mask) s out (Sighted w) s′ out

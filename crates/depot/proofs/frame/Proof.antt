@@ -1,65 +1,71 @@
+-- `depot::frame` meets its contract: refusals 1 to 4 in rising number, then the desk. Assumes nothing.
+use mathlib.Core.Path.{_≡_, sym, _∙_}
+use mathlib.Core.Bool.{true}
+use lib.ListN.{length}
+use Rattle.octets.proofs.Tests.{passed, failed}
+use Rattle.store.specs.Sound.{sound}
+use Rattle.depot.proofs.Refused.{small-buffer, judge-refused}
+use Rattle.depot.proofs.Calls.{unsound, frame-refused}
 use borrow.Author.Needs.{needs}
 use Rattle.depot.proofs.frame.Statement.{statement}
 use Rattle.depot.proofs.frame.Tie as tie
-use Rattle.depot.proofs.frame.Reads as reads
-use Rattle.depot.proofs.frame.Lts as lts
-use Rattle.depot.proofs.served.Reads as served-reads
-use Rattle.frame.proofs.judge.Reads as judge-reads
-use Rattle.store.proofs.sound.test.Reads as test-reads
 
--- src/lib.rt:64:9
+-- the store's test passed
+good : (c : tie.Else1) → sound (c .before .before .before .before .before .before .args .store .now) ≡ true
+good c = passed (c .before .test .ensures) (c .if1 .left)
+
 test-requires : tie.Need-test-requires
 test-requires c κs = search needs
 
--- src/lib.rt:65:9
 same-length : tie.Need-same-length
 same-length c = search needs
 
--- src/lib.rt:65:9
 returns : tie.Need-returns
-returns c = ?
+returns c = unsound _ _ _ (failed (c .before .test .ensures) (c .if1 .taken))
 
--- src/lib.rt:68:9
 same-length-2 : tie.Need-same-length-2
 same-length-2 c = search needs
 
--- src/lib.rt:68:9
 returns-2 : tie.Need-returns-2
-returns-2 c = ?
+returns-2 c = 
+    let e = c .before in
+    let a = e .before .before .before .before .before .before .args in
+    frame-refused (a .frame .now) (length (a .out .now)) _ (a .store .now) (a .out .now) (good e) (small-buffer (a .frame .now) (length (a .out .now)) (c .if2 .taken))
 
--- src/lib.rt:70:11
 judge-requires : tie.Need-judge-requires
 judge-requires c κs = search needs
 
--- src/lib.rt:71:25
 enum-known-r : tie.Need-enum-known-r
 enum-known-r c = search needs
 
--- src/lib.rt:72:23
 enum-known-f : tie.Need-enum-known-f
 enum-known-f c = search needs
 
--- src/lib.rt:72:29
 served-requires : tie.Need-served-requires
-served-requires c κs = ?
+served-requires c κs = 
+    let f = c .before .before .before in
+    let j = f .before .before in
+    let n = j .before in
+    (good (n .before), sym (j .judge .ensures) ∙ f .f .given .1, n .if2 .left)
 
--- src/lib.rt:61:1
 same-length-3 : tie.Need-same-length-3
 same-length-3 c = search needs
 
--- src/lib.rt:61:1
 returns-3 : tie.Need-returns-3
-returns-3 c = ?
+returns-3 c = 
+    let r = c .before in
+    let j = r .before .before in
+    let n = j .before in
+    let a = n .before .before .before .before .before .before .before .args in
+    frame-refused (a .frame .now) (length (a .out .now)) _ (a .store .now) (a .out .now) (good (n .before))
+    (judge-refused (a .frame .now) (length (a .out .now)) (n .if2 .left) (r .r .given .0 .0) (sym (j .judge .ensures) ∙ r .r .given .1))
 
--- src/lib.rt:61:1
 same-length-4 : tie.Need-same-length-4
 same-length-4 c = search needs
 
--- src/lib.rt:61:1
 same-length-5 : tie.Need-same-length-5
 same-length-5 c = search needs
 
--- src/lib.rt:61:1
 returns-4 : tie.Need-returns-4
 returns-4 c = search needs
 

@@ -1,74 +1,94 @@
+-- `depot::served` meets its contract: refusal 5, else the reply of the desk, sealed; a reply always fits. Assumes nothing.
+use mathlib.Core.Path.{_≡_, sym, _∙_}
+use Prim.Native.Nat.{ℕ, _+_, _-_}
+use mathlib.Core.List.{List}
+use native.Mathlib.Omega.{arith}
+use lib.ListN.{length, take, drop}
+use Rattle.octets.specs.Parts.{part}
+use Rattle.frame.specs.declared.Way.the-variants.{Request}
+use Rattle.frame.specs.declared.Frame.{Frame}
+use Rattle.frame.specs.Judged.{dataOf}
+use Rattle.frame.proofs.Verdict.{sound-fits}
+use Rattle.depot.proofs.Refused.{no-desk}
+use Rattle.depot.proofs.Calls.{frame-refused, frame-replied, frame-sealed}
 use borrow.Author.Needs.{needs}
 use Rattle.depot.proofs.served.Statement.{statement}
 use Rattle.depot.proofs.served.Tie as tie
-use Rattle.depot.proofs.served.Reads as reads
-use Rattle.depot.proofs.served.Lts as lts
-use Rattle.desk.proofs.serve.serve.Reads as serve-reads
-use Rattle.frame.proofs.seal_reply.Reads as seal-reply-reads
 
--- src/lib.rt:48:9
+-- the data that are lent to the desk
+same-body : (p : Frame) (f : List ℕ) → take (p .start + p .len - p .start) (drop (p .start) f) ≡ dataOf p f
+unfolding dataOf part
+same-body p f = let n : p .start + p .len - p .start ≡ p .len = omega arith in rw n
+
 returns : tie.Need-returns
-returns c = ?
+returns c = 
+    let z = c .before .before .before .before in
+    let a = z .args in
+    frame-refused (a .frame .now) (length (a .out .now)) _ (a .store .now) (a .out .now) (z .pre .0)
+    (no-desk (a .frame .now) (length (a .out .now)) (z .pre .2) (a .f) (z .pre .1) (c .if1 .taken))
 
--- src/lib.rt:51:15
 add-end : tie.Need-add-end
-add-end c = ?
+add-end c = 
+    let z = c .before .before .before .before .before in
+    omega (arith, sound-fits Request (z .args .frame .now) (z .args .f) (z .pre .1))
 
--- src/lib.rt:53:39
 cast-serve : tie.Need-cast-serve
 cast-serve c = search needs
 
--- src/lib.rt:53:74
 sub-serve : tie.Need-sub-serve
 sub-serve c = search needs
 
--- src/lib.rt:53:74
 part-serve-start : tie.Need-part-serve-start
 part-serve-start c = search needs
 
--- src/lib.rt:53:74
 part-serve-end : tie.Need-part-serve-end
-part-serve-end c = ?
+part-serve-end c = 
+    let z = c .before .before .before .before .before .before in
+    omega (arith, sound-fits Request (z .args .frame .now) (z .args .f) (z .pre .1))
 
--- src/lib.rt:53:9
 serve-requires : tie.Need-serve-requires
 serve-requires c κs = search needs
 
--- src/lib.rt:54:11
 seal-reply-requires : tie.Need-seal-reply-requires
 seal-reply-requires c κs = search needs
 
--- src/lib.rt:55:24
 enum-known-n : tie.Need-enum-known-n
 enum-known-n c = search needs
 
--- src/lib.rt:56:24
 enum-told : tie.Need-enum-told
 enum-told c = search needs
 
--- src/lib.rt:42:1
 same-length : tie.Need-same-length
 same-length c = search needs
 
--- src/lib.rt:42:1
 same-length-2 : tie.Need-same-length-2
 same-length-2 c = search needs
 
--- src/lib.rt:42:1
 returns-2 : tie.Need-returns-2
-returns-2 c = ?
+returns-2 c = 
+    let x = c .before .before .before .before .before in
+    let v = x .before .before .before .before .before .before in
+    let k = v .before .before .before .before .before .before .before .before in
+    let z = k .before in
+    let a = z .args in
+    frame-replied (a .frame .now) (a .store .now) (v .serve .last .0) (a .out .now) _ _ (a .f) (v .serve .result) (z .pre .0) (λ i. k .slice-known .given i .fits) (z .pre .1) (z .pre .2) (omega arith)
+    (same-body (a .f) (a .frame .now)) (v .serve .ensures) (c .before .n .given .0 .0) _ (sym (x .seal-reply .ensures .0) ∙ c .before .n .given .1) (x .seal-reply .ensures .1)
 
--- src/lib.rt:42:1
 same-length-3 : tie.Need-same-length-3
 same-length-3 c = search needs
 
--- src/lib.rt:42:1
 same-length-4 : tie.Need-same-length-4
 same-length-4 c = search needs
 
--- src/lib.rt:42:1
 returns-3 : tie.Need-returns-3
-returns-3 c = ?
+returns-3 c = 
+    let x = c .before .before .before .before in
+    let v = x .before .before .before .before .before .before in
+    let k = v .before .before .before .before .before .before .before .before in
+    let z = k .before in
+    let a = z .args in
+    absurd (frame-sealed (a .frame .now) (a .store .now) (v .serve .last .0) (a .out .now) _ _ (a .f) (v .serve .result) (z .pre .0) (λ i. k .slice-known .given i .fits) (z .pre .1) (z .pre .2) (omega arith)
+    (same-body (a .f) (a .frame .now)) (v .serve .ensures) (sym (x .seal-reply .ensures .0) ∙ c .enum-told .given .1))
 
 pub served-spec : {M : Type 1} → statement M
 served-spec =

@@ -1,50 +1,59 @@
+-- `depot::sighting` meets its contract: refusals 1, 5, 6 in rising number, then what the desk did. Assumes nothing.
+use mathlib.Core.Path.{_≡_}
+use mathlib.Core.Bool.{true}
+use native.Mathlib.Omega.{arith}
+use Rattle.octets.proofs.Tests.{passed, failed}
+use Rattle.store.specs.Sound.{sound}
+use Rattle.depot.proofs.Refused.{sighting-desk, sighting-mask, sighting-accepted}
+use Rattle.depot.proofs.Calls.{unsound, sighting-refused, sighting-answered}
 use borrow.Author.Needs.{needs}
 use Rattle.depot.proofs.sighting.Statement.{statement}
 use Rattle.depot.proofs.sighting.Tie as tie
-use Rattle.depot.proofs.sighting.Reads as reads
-use Rattle.depot.proofs.sighting.Lts as lts
-use Rattle.desk.proofs.sightings.sight.Reads as sight-reads
-use Rattle.store.proofs.sound.test.Reads as test-reads
 
--- src/lib.rt:80:9
+-- the store's test passed
+good : (c : tie.Else1) → sound (c .before .before .before .before .args .store .now) ≡ true
+good c = passed (c .before .test .ensures) (c .if1 .left)
+
 test-requires : tie.Need-test-requires
 test-requires c κs = search needs
 
--- src/lib.rt:81:9
 same-length : tie.Need-same-length
 same-length c = search needs
 
--- src/lib.rt:81:9
 returns : tie.Need-returns
-returns c = ?
+returns c = unsound _ _ _ (failed (c .before .test .ensures) (c .if1 .taken))
 
--- src/lib.rt:84:9
 same-length-2 : tie.Need-same-length-2
 same-length-2 c = search needs
 
--- src/lib.rt:84:9
 returns-2 : tie.Need-returns-2
-returns-2 c = ?
+returns-2 c = 
+    let e = c .before in
+    let a = e .before .before .before .before .args in
+    sighting-refused (a .desk) (a .uid) (a .mask) _ _ _ (good e) (sighting-desk (a .desk) (a .mask) (c .if2 .taken))
 
--- src/lib.rt:87:9
 same-length-3 : tie.Need-same-length-3
 same-length-3 c = search needs
 
--- src/lib.rt:87:9
 returns-3 : tie.Need-returns-3
-returns-3 c = ?
+returns-3 c = 
+    let e = c .before .before in
+    let a = e .before .before .before .before .args in
+    sighting-refused (a .desk) (a .uid) (a .mask) _ _ _ (good e) (sighting-mask (a .desk) (a .mask) (omega arith) (c .if3 .taken))
 
--- src/lib.rt:89:21
 sight-requires : tie.Need-sight-requires
-sight-requires c κs = ?
+sight-requires c κs = (good (c .before .before .before), omega arith)
 
--- src/lib.rt:77:1
 same-length-4 : tie.Need-same-length-4
 same-length-4 c = search needs
 
--- src/lib.rt:77:1
 returns-4 : tie.Need-returns-4
-returns-4 c = ?
+returns-4 c = 
+    let t = c .before .before in
+    let n = t .before .before in
+    let e = n .before .before in
+    let a = e .before .before .before .before .args in
+    sighting-answered (a .desk) (a .uid) (a .mask) _ _ _ _ (good e) (sighting-accepted (a .desk) (a .mask) (omega arith) (n .if3 .left)) (t .sight .ensures)
 
 pub sighting-spec : {M : Type 1} → statement M
 sighting-spec =

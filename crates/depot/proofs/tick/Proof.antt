@@ -1,34 +1,30 @@
+-- `depot::tick` meets its contract. Assumes nothing.
+use Rattle.octets.proofs.Tests.{passed, failed}
+use Rattle.depot.proofs.Calls.{unsound, ticked-answered}
 use borrow.Author.Needs.{needs}
 use Rattle.depot.proofs.tick.Statement.{statement}
 use Rattle.depot.proofs.tick.Tie as tie
-use Rattle.depot.proofs.tick.Reads as reads
-use Rattle.depot.proofs.tick.Lts as lts
-use Rattle.desk.proofs.sightings.tick.Reads as tick-reads
-use Rattle.store.proofs.sound.test.Reads as test-reads
 
--- src/lib.rt:96:9
 test-requires : tie.Need-test-requires
 test-requires c κs = search needs
 
--- src/lib.rt:97:9
 same-length : tie.Need-same-length
 same-length c = search needs
 
--- src/lib.rt:97:9
 returns : tie.Need-returns
-returns c = ?
+returns c = unsound _ _ _ (failed (c .before .test .ensures) (c .if1 .taken))
 
--- src/lib.rt:99:5
 tick-requires : tie.Need-tick-requires
-tick-requires c κs = ?
+tick-requires c κs = passed (c .before .before .test .ensures) (c .before .if1 .left)
 
--- src/lib.rt:93:1
 same-length-2 : tie.Need-same-length-2
 same-length-2 c = search needs
 
--- src/lib.rt:93:1
 returns-2 : tie.Need-returns-2
-returns-2 c = ?
+returns-2 c = 
+    let t = c .before .before in
+    let e = t .before .before in
+    ticked-answered _ _ _ (passed (e .before .test .ensures) (e .if1 .left)) (t .tick .ensures)
 
 pub tick-spec : {M : Type 1} → statement M
 tick-spec =
