@@ -1,10 +1,11 @@
 -- A sound row says a legal desk, and a row that says a legal desk is sound; a sound store has a legal view. Assumes nothing.
-use Prim.Native.Nat.{ℕ, _*_, _≤_, _<_}
+use Prim.Native.Nat.{ℕ, suc, _+_, _*_, _≤_, _<_}
 use mathlib.Core.Path.{_≡_, refl, _∙_}
 use mathlib.Core.List.{List, [], _∷_}
 use mathlib.Core.Bool.{Bool, true, false, cond, not, _||_}
+use native.Mathlib.Nat.{add-zero, zero-add, add-suc, suc-add}
 use native.Mathlib.Omega.{arith}
-use lib.ListN.{length, length-drop}
+use lib.ListN.{length, getD, length-drop}
 use lib.Dec.{eqb, lit<}
 use borrow.Author.Tests.{leb-true, ltb-true, eqb-true, le-leb, lt-ltb, eq-eqb}
 use Rattle.octets.specs.Numbers.{number, Octets}
@@ -12,7 +13,7 @@ use Rattle.octets.specs.Areas.{upto}
 use Rattle.octets.proofs.Tests.{and-left, and-right}
 use Rattle.octets.proofs.Numbers.{number-lt, octets-part}
 use Rattle.octets.proofs.Each.{All, Octet, octets-each, all-drop}
-use Rattle.octets.proofs.Rows.{Wide, rows-wide, rows-octets}
+use Rattle.octets.proofs.Rows.{Wide, rows-wide, rows-octets, rows-length}
 use Rattle.timer.specs.Clock.{timerLegal, timerFrom}
 use Rattle.locks.specs.Locks.{mostLocks, locksIn, locksLegal}
 use Rattle.locks.proofs.Stored.{locks-in-fit, locks-in-length}
@@ -20,15 +21,17 @@ use Rattle.locks.proofs.Sound.{locks-facts, locks-test}
 use Rattle.table.specs.Entries.{width, desks, share, owner, body, recordsOf, ownersBelow, sharesKept}
 use Rattle.table.proofs.Shares.{sharesKept-at}
 use Rattle.rules.specs.Config.{blockAt, lineLegal}
-use Rattle.rules.proofs.Facts.{MemoryLegal, RecordLegal, DeskLegal}
+use Rattle.rules.proofs.Facts.{MemoryLegal, RecordLegal, DeskLegal, box-test}
+use Rattle.rules.specs.Legal.{boxLegal}
 use Rattle.rules.specs.Box.{deskAt}
 use Rattle.store.specs.Layout.{rowWidth, sizeOf, header, startOf, usedOf, area, areas, rowAt, rowOf}
 use Rattle.store.specs.Rows.{fieldAt, fieldSize, field, fields}
-use Rattle.store.specs.View.{deskOf, deskIn, inUse, view}
-use Rattle.store.specs.Sound.{countsRight, blocksLegal, markRight, dueRight, locksRight, rowSound, tableSound}
+use Rattle.store.specs.View.{deskOf, deskIn, inUse, view, boxFrom, rowsIn, viewOf}
+use Rattle.store.specs.Sound.{countsRight, blocksLegal, markRight, dueRight, locksRight, rowSound, tableSound, sound}
 use Rattle.store.proofs.Fields.{field-length}
-use Rattle.store.proofs.Changes.{Sound, area-length, area-0}
-use Rattle.store.proofs.Anew.{row-length, row-sound, desk-is}
+use Rattle.store.proofs.Boxes.{box-length}
+use Rattle.store.proofs.Changes.{Sound, sound-facts, area-length, area-0}
+use Rattle.store.proofs.Anew.{row-length, row-sound, desk-is, row-is}
 
 -- ---- what the test of a row tells, with the number of records held
 
@@ -170,3 +173,25 @@ module _ (s : List ℕ) (f : Sound s) (o : Octets s) where
   legal-at d h =
       rw (desk-is s f d h)
       (desk-legal (rowOf d s) (row-length s f d h) (row-octets d) (recordsOf d (inUse s)) (row-sound s f d h) (shares-of d h) (records-of d))
+
+-- ---- the whole view
+
+box-legal : (k : ℕ) (rs es : List (List ℕ)) → ((d : ℕ) → d < length rs → DeskLegal (deskIn (getD rs d []) (recordsOf (k + d) es))) → All DeskLegal (boxFrom k rs es)
+unfolding boxFrom
+box-legal k [] es h = tt
+box-legal k (r ∷ rs) es h =
+    (rw add-zero at (h 0 (omega arith)), box-legal (suc k) rs es (λ d l. rw (add-suc, ← suc-add) at (h (suc d) (omega arith))))
+
+-- a sound store says a legal box
+pub view-legal : (s : List ℕ) → sound s ≡ true → Octets s → boxLegal (view s) ≡ true
+unfolding view viewOf
+view-legal s e o =
+    let f : Sound s = sound-facts s e in
+    let size : length (rowsIn (areas s)) ≡ desks = rows-length desks rowWidth (getD (areas s) 1 []) in
+    box-test (view s)
+    record {
+      size = box-length 0 (rowsIn (areas s)) (inUse s) ∙ size;
+      each =
+          box-legal 0 (rowsIn (areas s)) (inUse s)
+          (λ d l. rw (zero-add d) (rw (desk-is s f d (omega arith), ← row-is s f d (omega arith)) at (legal-at s f o d (omega arith))));
+    }
