@@ -20,9 +20,10 @@ use Rattle.rules.proofs.Legality.{Sized, effect-legal}
 use Rattle.store.specs.Layout.{rowWidth, rowAt, rowOf}
 use Rattle.store.specs.View.{deskIn, inUse}
 use Rattle.store.specs.Sound.{sound}
+use Rattle.rows.proofs.Flagged.{Flags}
 use Rattle.desk.specs.declared.Reply.{Reply}
 use Rattle.desk.specs.Obeyed.{kept, ruled, Says, Done, Quiet, dataAt, Obeyed}
-use Rattle.desk.proofs.Doing.{Flags, kept-is, kept-legal, unchanged, row-says}
+use Rattle.desk.proofs.Doing.{kept-is, kept-legal, unchanged, row-says}
 
 -- the result of a command whose own rule gives a status, or none
 pub ruled-refused : (c : Command) (kind : Kind) (d : Desk) (body : List ℕ) (status : ℕ) → first (ownTests c d body) ≡ some status

@@ -18,12 +18,8 @@ use Rattle.store.specs.Sound.{sound, rowSound, tableSound}
 use Rattle.store.proofs.Changes.{Sound, sound-facts, sound-test}
 use Rattle.store.proofs.Anew.{row-length, row-sound, desk-is, Left, row-anew, entries-anew}
 use Rattle.store.proofs.LegalView.{RowSound, row-facts, legal-row, legal-at}
+use Rattle.rows.proofs.Flagged.{Flags}
 use Rattle.desk.specs.Obeyed.{kept, Says}
-
--- login and mark are 0 or 1
-pub record Flags (row : List ℕ) : Type 0 where
-  pub login : number (field row 3) ≤ 1
-  pub mark : number (field row 5) ≤ 1
 
 module _ (s : List ℕ) (e : sound s ≡ true) (d : ℕ) (h : d < desks) where
   facts : Sound s

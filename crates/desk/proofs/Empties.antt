@@ -31,12 +31,12 @@ use Rattle.store.proofs.Changes.{sound-facts}
 use Rattle.store.proofs.Anew.{row-now, entries-kept}
 use Rattle.desk.specs.declared.Reply.{Reply}
 use Rattle.desk.specs.Obeyed.{kept, Says, Quiet}
-use Rattle.desk.specs.Row.{closedRow, clearedRow, systemRow}
+use Rattle.rows.specs.Row.{closedRow, clearedRow, systemRow}
 use Rattle.desk.specs.Removal.{removedFrom}
 use Rattle.desk.proofs.Doing.{kept-is, row-size, row-flags, kept-legal, row-says, says-then}
-use Rattle.desk.proofs.Lengths.{closed-length, cleared-length, system-length}
-use Rattle.desk.proofs.Flagged.{closed-flags, cleared-flags, system-flags}
-use Rattle.desk.proofs.Meaning.{noneHeld, closed-means, cleared-means, system-means}
+use Rattle.rows.proofs.Lengths.{closed-length, cleared-length, system-length}
+use Rattle.rows.proofs.Flagged.{closed-flags, cleared-flags, system-flags}
+use Rattle.rows.proofs.Meaning.{noneHeld, closed-means, cleared-means, system-means}
 use Rattle.desk.proofs.LentTable.{few-held}
 use Rattle.desk.proofs.Removes.{removes}
 use Rattle.desk.proofs.Answers.{quiet, ruled-done}

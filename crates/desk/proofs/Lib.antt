@@ -4,11 +4,7 @@ pub mod LentRow
 pub mod Told
 pub mod NamedBlocks
 pub mod Answers
-pub mod Lengths
-pub mod Flagged
 pub mod Serves
-pub mod Lent
-pub mod Meaning
 pub mod Saying
 pub mod Ticks
 pub mod NewRecord

@@ -30,7 +30,7 @@ use Rattle.store.proofs.Changes.{Sound, sound-facts, area-length, header-kept, 
 use Rattle.desk.specs.Removal.{recordedIn}
 use Rattle.desk.specs.Obeyed.{kept, Says}
 use Rattle.desk.proofs.Doing.{kept-is, row-size, kept-legal, entries-say}
-use Rattle.desk.proofs.Meaning.{recorded-means}
+use Rattle.rows.proofs.Meaning.{recorded-means}
 
 -- the entries in use lie in front of the third area
 pub in-use : (s : List ℕ) → inUse s ≡ entries (usedOf (header s)) (area s 2)

@@ -29,12 +29,12 @@ use Rattle.store.specs.Layout.{rowWidth, rowAt, rowOf}
 use Rattle.store.specs.Rows.{field, fields}
 use Rattle.store.specs.View.{deskOf, inUse}
 use Rattle.store.specs.Sound.{sound}
-use Rattle.desk.specs.Row.{markedRow, locksOf, lockedRow}
+use Rattle.rows.specs.Row.{markedRow, locksOf, lockedRow}
 use Rattle.desk.specs.Removal.{recordedIn}
 use Rattle.desk.specs.Obeyed.{kept, Says, Sighted}
-use Rattle.desk.proofs.Doing.{Flags, kept-is, row-size, row-flags, kept-legal, unchanged, row-says, says-then}
-use Rattle.desk.proofs.Flagged.{marked-flags, locks-flags}
-use Rattle.desk.proofs.Meaning.{marked-means, locked-means}
+use Rattle.desk.proofs.Doing.{kept-is, row-size, row-flags, kept-legal, unchanged, row-says, says-then}
+use Rattle.rows.proofs.Flagged.{Flags, marked-flags, locks-flags}
+use Rattle.rows.proofs.Meaning.{marked-means, locked-means}
 use Rattle.desk.proofs.LentRow.{few-locks}
 use Rattle.desk.proofs.Saying.{kept-now}
 use Rattle.desk.proofs.NewRecord.{held-is, recorded-says, same-place}

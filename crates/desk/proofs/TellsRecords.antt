@@ -28,10 +28,10 @@ use Rattle.store.specs.View.{deskOf, deskIn, inUse}
 use Rattle.store.specs.Sound.{sound}
 use Rattle.desk.specs.declared.Reply.{Reply}
 use Rattle.desk.specs.Obeyed.{kept, ruled, Says, dataAt, Obeyed}
-use Rattle.desk.specs.Row.{dueRow}
+use Rattle.rows.specs.Row.{dueRow}
 use Rattle.desk.proofs.Doing.{kept-is, row-size, row-flags, kept-legal, row-says}
-use Rattle.desk.proofs.Flagged.{due-flags}
-use Rattle.desk.proofs.Meaning.{due-means}
+use Rattle.rows.proofs.Flagged.{due-flags}
+use Rattle.rows.proofs.Meaning.{due-means}
 use Rattle.desk.proofs.LentTable.{counted-length}
 use Rattle.desk.proofs.Answers.{ruled-done, untold, told}
 

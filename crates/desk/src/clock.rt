@@ -2,7 +2,6 @@
 use crate::Reply;
 use crate::data_at;
 use crate::plain;
-use crate::row;
 use frame::Kind;
 ghost use mathlib.Core.Path.{_≡_};
 ghost use mathlib.Core.Bool.{true};
@@ -29,7 +28,7 @@ pub fn reset(s: &mut [u8], d: usize, body: &[u8]) -> Reply
     ensures { λ r. ⌜ Quiet Command.Reset d (now (body .entry)) r (now (s .entry)) (now (s .exit)) ⌝ }
 {
     let at = store::row_at(s, d);
-    row::restart(&mut s[at..at + store::ROW]);
+    rows::restart(&mut s[at..at + store::ROW]);
     plain(0)
 }
 
@@ -42,7 +41,7 @@ pub fn set_timer(s: &mut [u8], d: usize, body: &[u8]) -> Reply
         return plain(0x11);
     }
     let at = store::row_at(s, d);
-    row::set_timer(&mut s[at..at + store::ROW], body);
+    rows::set_timer(&mut s[at..at + store::ROW], body);
     plain(0)
 }
 
@@ -63,7 +62,7 @@ pub fn login(s: &mut [u8], d: usize, body: &[u8]) -> Reply
 {
     let at = store::row_at(s, d);
     let equal = octets::same(s, at + store::EEPROM, body);
-    row::set_login(&mut s[at..at + store::ROW], equal);
+    rows::set_login(&mut s[at..at + store::ROW], equal);
     if equal {
         return plain(0);
     }

@@ -2,7 +2,6 @@
 use crate::Reply;
 use crate::data_at;
 use crate::plain;
-use crate::row;
 use frame::Kind;
 ghost use mathlib.Core.Path.{_≡_};
 ghost use mathlib.Core.Bool.{true, cond, not, _&&_};
@@ -119,7 +118,7 @@ pub fn write_block(s: &mut [u8], d: usize, body: &[u8]) -> Reply
         return plain(0x11);
     }
     let at = store::row_at(s, d);
-    row::write_block(&mut s[at..at + store::ROW], in_eeprom(adr), k, &body[1..]);
+    rows::write_block(&mut s[at..at + store::ROW], in_eeprom(adr), k, &body[1..]);
     plain(0)
 }
 
@@ -137,10 +136,10 @@ pub fn save(s: &mut [u8], d: usize, body: &[u8]) -> Reply
     }
     let at = store::row_at(s, d);
     if all_blocks(adr) {
-        row::save_all(&mut s[at..at + store::ROW]);
+        rows::save_all(&mut s[at..at + store::ROW]);
         return plain(0);
     }
-    row::save_block(&mut s[at..at + store::ROW], block_of(adr));
+    rows::save_block(&mut s[at..at + store::ROW], block_of(adr));
     plain(0)
 }
 
@@ -155,9 +154,9 @@ pub fn restore(s: &mut [u8], d: usize, body: &[u8]) -> Reply
     }
     let at = store::row_at(s, d);
     if all_blocks(adr) {
-        row::restore_all(&mut s[at..at + store::ROW], in_eeprom(adr));
+        rows::restore_all(&mut s[at..at + store::ROW], in_eeprom(adr));
         return plain(0);
     }
-    row::restore_block(&mut s[at..at + store::ROW], in_eeprom(adr), block_of(adr));
+    rows::restore_block(&mut s[at..at + store::ROW], in_eeprom(adr), block_of(adr));
     plain(0)
 }

@@ -8,7 +8,6 @@ pub mod clock;
 pub mod config;
 pub mod control;
 pub mod records;
-pub mod row;
 pub mod serve;
 pub mod sightings;
 

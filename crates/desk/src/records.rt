@@ -2,7 +2,6 @@
 use crate::Reply;
 use crate::data_at;
 use crate::plain;
-use crate::row;
 use frame::Kind;
 ghost use mathlib.Core.Path.{_≡_};
 ghost use mathlib.Core.Bool.{true, Bool, cond};
@@ -101,7 +100,7 @@ pub fn read_records(s: &mut [u8], d: usize, kind: Kind, body: &[u8], out: &mut [
     tell_records(s, d, n, out, data_at(kind));
     let at = store::row_at(s, d);
     let status = status_of(s[at + store::MARK], n, wanted);
-    row::set_due(&mut s[at..at + store::ROW], n as u8);
+    rows::set_due(&mut s[at..at + store::ROW], n as u8);
     Reply {
         status,
         len: 2 + table::RECORD * n,
@@ -129,7 +128,7 @@ pub fn remove(s: &mut [u8], d: usize, body: &[u8]) -> Reply
     let at = store::row_at(s, d);
     let due = s[at + store::DUE];
     let start = (s[at + store::TAB_START] as u16 + due as u16) % 64;
-    row::close_table(&mut s[at..at + store::ROW], start as u8);
+    rows::close_table(&mut s[at..at + store::ROW], start as u8);
     remove_first(s, d, due as usize);
     plain(0)
 }
@@ -140,7 +139,7 @@ pub fn clear(s: &mut [u8], d: usize, body: &[u8]) -> Reply
     ensures { λ r. ⌜ Quiet Command.ClearRecords d (now (body .entry)) r (now (s .entry)) (now (s .exit)) ⌝ }
 {
     let at = store::row_at(s, d);
-    row::clear(&mut s[at..at + store::ROW]);
+    rows::clear(&mut s[at..at + store::ROW]);
     remove_first(s, d, 64);
     plain(0)
 }
@@ -151,7 +150,7 @@ pub fn system_reset(s: &mut [u8], d: usize, body: &[u8]) -> Reply
     ensures { λ r. ⌜ Quiet Command.SystemReset d (now (body .entry)) r (now (s .entry)) (now (s .exit)) ⌝ }
 {
     let at = store::row_at(s, d);
-    row::restart_all(&mut s[at..at + store::ROW]);
+    rows::restart_all(&mut s[at..at + store::ROW]);
     remove_first(s, d, 64);
     plain(0)
 }

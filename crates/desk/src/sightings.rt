@@ -1,6 +1,5 @@
 // A sighting at a desk, and a tick of all desks.
 use crate::records::held;
-use crate::row;
 use locks::Found;
 use rules::Seen;
 use timer::Timer;
@@ -75,12 +74,12 @@ pub fn sight(s: &mut [u8], d: usize, uid: u64, mask: u8) -> Seen
     }
     let at = store::row_at(s, d);
     if 64 <= held(s, d) {
-        row::set_mark(&mut s[at..at + store::ROW]);
+        rows::set_mark(&mut s[at..at + store::ROW]);
         return Seen::Lost;
     }
     let t = timer::read(s, at + store::TIMER);
     put_record(s, d, record_of(uid, t, mask));
-    row::add_lock(&mut s[at..at + store::ROW], uid);
+    rows::add_lock(&mut s[at..at + store::ROW], uid);
     Seen::Recorded
 }
 
@@ -89,7 +88,7 @@ fn tick_desk(s: &mut [u8], d: usize)
     ensures { λ _. ⌜ Says d (ticked (kept d (now (s .entry)))) (now (s .entry)) (now (s .exit)) ⌝ }
 {
     let at = store::row_at(s, d);
-    row::tick(&mut s[at..at + store::ROW]);
+    rows::tick(&mut s[at..at + store::ROW]);
 }
 
 // Every desk is ticked.

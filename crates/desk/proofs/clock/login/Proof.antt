@@ -14,15 +14,15 @@ use Rattle.rules.specs.Command.{ownTests, effect, passwordIs}
 use Rattle.rules.proofs.Legality.{Sized}
 use Rattle.store.specs.Layout.{rowWidth, rowOf}
 use Rattle.store.specs.View.{inUse}
-use Rattle.desk.specs.Row.{loginRow}
+use Rattle.rows.specs.Row.{loginRow}
 use Rattle.desk.specs.Obeyed.{kept, Quiet}
 use Rattle.desk.specs.declared.Reply.{Reply}
 use Rattle.desk.proofs.Doing.{row-size, row-flags}
 use Rattle.desk.proofs.LentRow.{sound-size, lent-inside, lent-done}
 use Rattle.desk.proofs.Told.{password-told}
-use Rattle.desk.proofs.Lengths.{login-length}
-use Rattle.desk.proofs.Flagged.{login-flags}
-use Rattle.desk.proofs.Meaning.{login-means}
+use Rattle.rows.proofs.Lengths.{login-length}
+use Rattle.rows.proofs.Flagged.{login-flags}
+use Rattle.rows.proofs.Meaning.{login-means}
 use Rattle.desk.proofs.Answers.{changed}
 use Rattle.desk.proofs.clock.login.Statement.{statement}
 use Rattle.desk.proofs.clock.login.Tie as tie

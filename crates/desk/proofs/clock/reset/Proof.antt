@@ -10,12 +10,12 @@ use Rattle.rules.specs.Command.{ownTests, done, effect}
 use Rattle.rules.proofs.Legality.{Sized}
 use Rattle.store.specs.Layout.{rowOf}
 use Rattle.store.specs.View.{inUse}
-use Rattle.desk.specs.Row.{restartedRow}
+use Rattle.rows.specs.Row.{restartedRow}
 use Rattle.desk.proofs.Doing.{row-size, row-flags}
 use Rattle.desk.proofs.LentRow.{sound-size, lent-inside, lent-done}
-use Rattle.desk.proofs.Lengths.{restarted-length}
-use Rattle.desk.proofs.Flagged.{restarted-flags}
-use Rattle.desk.proofs.Meaning.{restarted-means}
+use Rattle.rows.proofs.Lengths.{restarted-length}
+use Rattle.rows.proofs.Flagged.{restarted-flags}
+use Rattle.rows.proofs.Meaning.{restarted-means}
 use Rattle.desk.proofs.Answers.{changed}
 use Rattle.desk.proofs.clock.reset.Statement.{statement}
 use Rattle.desk.proofs.clock.reset.Tie as tie

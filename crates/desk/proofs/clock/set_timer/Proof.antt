@@ -13,13 +13,13 @@ use Rattle.rules.specs.Command.{ownTests, done, effect}
 use Rattle.rules.proofs.Legality.{Sized}
 use Rattle.store.specs.Layout.{rowOf}
 use Rattle.store.specs.View.{inUse}
-use Rattle.desk.specs.Row.{timerRow}
+use Rattle.rows.specs.Row.{timerRow}
 use Rattle.desk.proofs.Doing.{row-size, row-flags}
 use Rattle.desk.proofs.LentRow.{sound-size, lent-inside, lent-done}
 use Rattle.desk.proofs.Told.{part-whole}
-use Rattle.desk.proofs.Lengths.{timer-length}
-use Rattle.desk.proofs.Flagged.{timer-flags}
-use Rattle.desk.proofs.Meaning.{timer-means}
+use Rattle.rows.proofs.Lengths.{timer-length}
+use Rattle.rows.proofs.Flagged.{timer-flags}
+use Rattle.rows.proofs.Meaning.{timer-means}
 use Rattle.desk.proofs.Answers.{refused, changed}
 use Rattle.desk.proofs.clock.set_timer.Statement.{statement}
 use Rattle.desk.proofs.clock.set_timer.Tie as tie

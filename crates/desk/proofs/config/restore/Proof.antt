@@ -16,14 +16,14 @@ use Rattle.rules.proofs.Legality.{Sized}
 use Rattle.rules.proofs.Memories.{length-block, defaults-legal}
 use Rattle.store.specs.Layout.{rowOf}
 use Rattle.store.specs.View.{inUse}
-use Rattle.desk.specs.Row.{writtenRow, defaultRow}
+use Rattle.rows.specs.Row.{writtenRow, defaultRow}
 use Rattle.desk.specs.Obeyed.{kept}
 use Rattle.desk.proofs.Doing.{row-size, row-flags}
 use Rattle.desk.proofs.LentRow.{sound-size, lent-inside, lent-size, lent-done}
 use Rattle.desk.proofs.NamedBlocks.{named-below}
-use Rattle.desk.proofs.Lengths.{written-length, default-length}
-use Rattle.desk.proofs.Flagged.{written-flags, default-flags}
-use Rattle.desk.proofs.Meaning.{written-means, default-means}
+use Rattle.rows.proofs.Lengths.{written-length, default-length}
+use Rattle.rows.proofs.Flagged.{written-flags, default-flags}
+use Rattle.rows.proofs.Meaning.{written-means, default-means}
 use Rattle.desk.proofs.Answers.{refused, changed}
 use Rattle.desk.proofs.config.restore.Statement.{statement}
 use Rattle.desk.proofs.config.restore.Tie as tie

@@ -15,14 +15,14 @@ use Rattle.rules.specs.Command.{ownTests, done, effect}
 use Rattle.rules.proofs.Legality.{Sized}
 use Rattle.store.specs.Layout.{rowOf}
 use Rattle.store.specs.View.{inUse}
-use Rattle.desk.specs.Row.{savedRow, allSavedRow}
+use Rattle.rows.specs.Row.{savedRow, allSavedRow}
 use Rattle.desk.specs.Obeyed.{kept}
 use Rattle.desk.proofs.Doing.{row-size, row-flags}
 use Rattle.desk.proofs.LentRow.{sound-size, lent-inside, lent-size, lent-done}
 use Rattle.desk.proofs.NamedBlocks.{named-below}
-use Rattle.desk.proofs.Lengths.{saved-length, all-saved-length}
-use Rattle.desk.proofs.Flagged.{saved-flags, all-saved-flags}
-use Rattle.desk.proofs.Meaning.{saved-means, all-saved-means}
+use Rattle.rows.proofs.Lengths.{saved-length, all-saved-length}
+use Rattle.rows.proofs.Flagged.{saved-flags, all-saved-flags}
+use Rattle.rows.proofs.Meaning.{saved-means, all-saved-means}
 use Rattle.desk.proofs.Answers.{refused, changed}
 use Rattle.desk.proofs.config.save.Statement.{statement}
 use Rattle.desk.proofs.config.save.Tie as tie

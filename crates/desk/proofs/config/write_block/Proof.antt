@@ -16,14 +16,14 @@ use Rattle.rules.specs.Command.{ownTests, done, effect}
 use Rattle.rules.proofs.Legality.{Sized, names-one}
 use Rattle.store.specs.Layout.{rowOf}
 use Rattle.store.specs.View.{inUse}
-use Rattle.desk.specs.Row.{writtenRow}
+use Rattle.rows.specs.Row.{writtenRow}
 use Rattle.desk.specs.Obeyed.{kept}
 use Rattle.desk.proofs.Doing.{row-size, row-flags}
 use Rattle.desk.proofs.LentRow.{sound-size, lent-inside, lent-size, lent-done}
 use Rattle.desk.proofs.Told.{lent-rest}
-use Rattle.desk.proofs.Lengths.{written-length}
-use Rattle.desk.proofs.Flagged.{written-flags}
-use Rattle.desk.proofs.Meaning.{written-means}
+use Rattle.rows.proofs.Lengths.{written-length}
+use Rattle.rows.proofs.Flagged.{written-flags}
+use Rattle.rows.proofs.Meaning.{written-means}
 use Rattle.desk.proofs.Answers.{refused, changed}
 use Rattle.desk.proofs.config.write_block.Statement.{statement}
 use Rattle.desk.proofs.config.write_block.Tie as tie

@@ -7,8 +7,8 @@ use Prim.Native.Nat.{_+_, _-_}
 use lib.ListN.{length, take, drop}
 use Rattle.octets.specs.Parts.{put}
 use Rattle.store.specs.Layout.{rowWidth, rowAt, rowOf}
-use Rattle.desk.specs.Row.{clearedRow}
-use Rattle.desk.proofs.Lengths.{cleared-length}
+use Rattle.rows.specs.Row.{clearedRow}
+use Rattle.rows.proofs.Lengths.{cleared-length}
 use Rattle.desk.proofs.LentRow.{sound-size, lent-inside, lent-done}
 use Rattle.desk.proofs.Empties.{clearing, cleared-done}
 use Rattle.desk.proofs.records.clear.Statement.{statement}

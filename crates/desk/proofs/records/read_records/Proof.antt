@@ -8,7 +8,7 @@ use lib.ListN.{length}
 use Rattle.octets.specs.Numbers.{u16At}
 use Rattle.octets.proofs.Puts.{put-length}
 use Rattle.store.specs.Layout.{rowWidth}
-use Rattle.desk.specs.Row.{dueRow}
+use Rattle.rows.specs.Row.{dueRow}
 use Rattle.desk.proofs.LentRow.{sound-size, lent-inside, lent-done}
 use Rattle.desk.proofs.RowOctets.{row-octet}
 use Rattle.desk.proofs.TellsRecords.{none-asked, none-held, records-told}

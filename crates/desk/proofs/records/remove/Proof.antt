@@ -8,8 +8,8 @@ use lib.Dec.{lit<}
 use lib.ListN.{length, take, drop, getD}
 use Rattle.octets.specs.Parts.{put}
 use Rattle.store.specs.Layout.{rowWidth, rowAt, rowOf}
-use Rattle.desk.specs.Row.{closedRow}
-use Rattle.desk.proofs.Lengths.{closed-length}
+use Rattle.rows.specs.Row.{closedRow}
+use Rattle.rows.proofs.Lengths.{closed-length}
 use Rattle.desk.proofs.LentRow.{sound-size, lent-inside, lent-done}
 use Rattle.desk.proofs.RowOctets.{row-octet}
 use Rattle.desk.proofs.Empties.{closing, removed-done}

@@ -7,8 +7,8 @@ use Prim.Native.Nat.{_+_, _-_}
 use lib.ListN.{length, take, drop}
 use Rattle.octets.specs.Parts.{put}
 use Rattle.store.specs.Layout.{rowWidth, rowAt, rowOf}
-use Rattle.desk.specs.Row.{systemRow}
-use Rattle.desk.proofs.Lengths.{system-length}
+use Rattle.rows.specs.Row.{systemRow}
+use Rattle.rows.proofs.Lengths.{system-length}
 use Rattle.desk.proofs.LentRow.{sound-size, lent-inside, lent-done}
 use Rattle.desk.proofs.Empties.{restarting, system-done}
 use Rattle.desk.proofs.records.system_reset.Statement.{statement}

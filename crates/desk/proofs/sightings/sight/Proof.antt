@@ -8,7 +8,7 @@ use Rattle.timer.specs.declared.Timer.{Timer}
 use Rattle.locks.specs.Locks.{locked}
 use Rattle.rules.specs.Records.{recordOf}
 use Rattle.store.specs.Layout.{rowAt}
-use Rattle.desk.specs.Row.{markedRow, lockedRow}
+use Rattle.rows.specs.Row.{markedRow, lockedRow}
 use Rattle.desk.specs.Removal.{recordedIn}
 use Rattle.desk.specs.Obeyed.{kept}
 use Rattle.desk.proofs.Doing.{row-size}

@@ -1,7 +1,7 @@
 -- `desk::sightings::tick_desk` meets its contract. Assumes nothing.
 use mathlib.Core.Path.{_∙_}
 use native.Mathlib.Omega.{arith}
-use Rattle.desk.specs.Row.{tickedRow}
+use Rattle.rows.specs.Row.{tickedRow}
 use Rattle.desk.proofs.Doing.{row-size}
 use Rattle.desk.proofs.LentRow.{sound-size, few-locks, lent-inside, lent-row, row-back}
 use Rattle.desk.proofs.Ticks.{ticked-size, row-ticked}

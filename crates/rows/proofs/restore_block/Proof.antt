@@ -1,0 +1,17 @@
+-- `rows::restore_block` meets its contract. Assumes nothing.
+use borrow.Author.Needs.{needs}
+use Rattle.rows.proofs.restore_block.Statement.{statement}
+use Rattle.rows.proofs.restore_block.Tie as tie
+
+returns : tie.Need-returns
+returns c = cc
+
+pub restore-block-spec : {M : Type 1} → statement M
+restore-block-spec =
+    tie.close
+    (tie.spec
+    (λ c κs. search needs)
+    (λ c. search needs)
+    (λ c κs. search needs)
+    (λ c. search needs)
+    returns)

@@ -1,0 +1,20 @@
+-- `rows::write_block` meets its contract. Assumes nothing.
+use borrow.Author.Needs.{needs}
+use Rattle.rows.specs.Row.{writtenRow}
+use Rattle.rows.proofs.write_block.Statement.{statement}
+use Rattle.rows.proofs.write_block.Tie as tie
+
+returns : tie.Need-returns
+unfolding writtenRow
+returns c = cc
+
+pub write-block-spec : {M : Type 1} → statement M
+write-block-spec =
+    tie.close
+    (tie.spec
+    (λ c κs. search needs)
+    (λ c. search needs)
+    (λ c. search needs)
+    (λ c κs. search needs)
+    (λ c. search needs)
+    returns)
