@@ -50,7 +50,14 @@ fn served(store: &mut [u8], frame: &[u8], f: Frame, out: &mut [u8]) -> Answer
     let start = f.start;
     let end = start + f.len;
     let kind = f.kind;
-    let r = desk::serve::serve(store, address as usize, kind, f.control, &frame[start..end], out);
+    let r = desk::serve::serve(
+        store,
+        address as usize,
+        kind,
+        f.control,
+        &frame[start..end],
+        out,
+    );
     match frame::seal_reply(out, kind, address, f.control, r.status, r.len) {
         Sealed::Octets(n) => Answer::Reply(n),
         Sealed::Not => Answer::Done,

@@ -27,7 +27,7 @@ same-length-2 : tie.Need-same-length-2
 same-length-2 c = search needs
 
 returns-2 : tie.Need-returns-2
-returns-2 c = 
+returns-2 c =
     let e = c .before in
     let a = e .before .before .before .before .before .before .args in
     frame-refused (a .frame .now) (length (a .out .now)) _ (a .store .now) (a .out .now) (good e) (small-buffer (a .frame .now) (length (a .out .now)) (c .if2 .taken))
@@ -42,7 +42,7 @@ enum-known-f : tie.Need-enum-known-f
 enum-known-f c = search needs
 
 served-requires : tie.Need-served-requires
-served-requires c κs = 
+served-requires c κs =
     let f = c .before .before .before in
     let j = f .before .before in
     let n = j .before in
@@ -52,7 +52,7 @@ same-length-3 : tie.Need-same-length-3
 same-length-3 c = search needs
 
 returns-3 : tie.Need-returns-3
-returns-3 c = 
+returns-3 c =
     let r = c .before in
     let j = r .before .before in
     let n = j .before in

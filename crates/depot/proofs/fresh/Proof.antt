@@ -14,7 +14,7 @@ same-length : tie.Need-same-length
 same-length c = search needs
 
 returns-2 : tie.Need-returns-2
-returns-2 c = 
+returns-2 c =
     let m = c .before .before in
     let e = m .before .before in
     record { answer-is = rw (eq-eqb _ _ (e .if1 .left)); store-is = rw (eq-eqb _ _ (e .if1 .left)) (m .make .ensures) }

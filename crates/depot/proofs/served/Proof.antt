@@ -21,14 +21,14 @@ unfolding dataOf part
 same-body p f = let n : p .start + p .len - p .start ≡ p .len = omega arith in rw n
 
 returns : tie.Need-returns
-returns c = 
+returns c =
     let z = c .before .before .before .before in
     let a = z .args in
     frame-refused (a .frame .now) (length (a .out .now)) _ (a .store .now) (a .out .now) (z .pre .0)
     (no-desk (a .frame .now) (length (a .out .now)) (z .pre .2) (a .f) (z .pre .1) (c .if1 .taken))
 
 add-end : tie.Need-add-end
-add-end c = 
+add-end c =
     let z = c .before .before .before .before .before in
     omega (arith, sound-fits Request (z .args .frame .now) (z .args .f) (z .pre .1))
 
@@ -42,7 +42,7 @@ part-serve-start : tie.Need-part-serve-start
 part-serve-start c = search needs
 
 part-serve-end : tie.Need-part-serve-end
-part-serve-end c = 
+part-serve-end c =
     let z = c .before .before .before .before .before .before in
     omega (arith, sound-fits Request (z .args .frame .now) (z .args .f) (z .pre .1))
 
@@ -65,13 +65,13 @@ same-length-2 : tie.Need-same-length-2
 same-length-2 c = search needs
 
 returns-2 : tie.Need-returns-2
-returns-2 c = 
+returns-2 c =
     let x = c .before .before .before .before .before in
     let v = x .before .before .before .before .before .before in
     let k = v .before .before .before .before .before .before .before .before in
     let z = k .before in
     let a = z .args in
-    frame-replied (a .frame .now) (a .store .now) (v .serve .last .0) (a .out .now) _ _ (a .f) (v .serve .result) (z .pre .0) (λ i. k .slice-known .given i .fits) (z .pre .1) (z .pre .2) (omega arith)
+    frame-replied (a .frame .now) (a .store .now) (v .serve .last .0) (a .out .now) _ _ (a .f) (v .serve .result) (z .pre .0) (λ i. k .slice-known .given i .fits) (z .pre .1) (z .pre .2) (v .before .before .before .before .before .if1 .left)
     (same-body (a .f) (a .frame .now)) (v .serve .ensures) (c .before .n .given .0 .0) _ (sym (x .seal-reply .ensures .0) ∙ c .before .n .given .1) (x .seal-reply .ensures .1)
 
 same-length-3 : tie.Need-same-length-3
@@ -81,13 +81,13 @@ same-length-4 : tie.Need-same-length-4
 same-length-4 c = search needs
 
 returns-3 : tie.Need-returns-3
-returns-3 c = 
+returns-3 c =
     let x = c .before .before .before .before in
     let v = x .before .before .before .before .before .before in
     let k = v .before .before .before .before .before .before .before .before in
     let z = k .before in
     let a = z .args in
-    absurd (frame-sealed (a .frame .now) (a .store .now) (v .serve .last .0) (a .out .now) _ _ (a .f) (v .serve .result) (z .pre .0) (λ i. k .slice-known .given i .fits) (z .pre .1) (z .pre .2) (omega arith)
+    absurd (frame-sealed (a .frame .now) (a .store .now) (v .serve .last .0) (a .out .now) _ _ (a .f) (v .serve .result) (z .pre .0) (λ i. k .slice-known .given i .fits) (z .pre .1) (z .pre .2) (v .before .before .before .before .before .if1 .left)
     (same-body (a .f) (a .frame .now)) (v .serve .ensures) (sym (x .seal-reply .ensures .0) ∙ c .enum-told .given .1))
 
 pub served-spec : {M : Type 1} → statement M

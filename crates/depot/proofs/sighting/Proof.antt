@@ -27,7 +27,7 @@ same-length-2 : tie.Need-same-length-2
 same-length-2 c = search needs
 
 returns-2 : tie.Need-returns-2
-returns-2 c = 
+returns-2 c =
     let e = c .before in
     let a = e .before .before .before .before .args in
     sighting-refused (a .desk) (a .uid) (a .mask) _ _ _ (good e) (sighting-desk (a .desk) (a .mask) (c .if2 .taken))
@@ -36,7 +36,7 @@ same-length-3 : tie.Need-same-length-3
 same-length-3 c = search needs
 
 returns-3 : tie.Need-returns-3
-returns-3 c = 
+returns-3 c =
     let e = c .before .before in
     let a = e .before .before .before .before .args in
     sighting-refused (a .desk) (a .uid) (a .mask) _ _ _ (good e) (sighting-mask (a .desk) (a .mask) (omega arith) (c .if3 .taken))
@@ -48,7 +48,7 @@ same-length-4 : tie.Need-same-length-4
 same-length-4 c = search needs
 
 returns-4 : tie.Need-returns-4
-returns-4 c = 
+returns-4 c =
     let t = c .before .before in
     let n = t .before .before in
     let e = n .before .before in

@@ -21,7 +21,7 @@ same-length-2 : tie.Need-same-length-2
 same-length-2 c = search needs
 
 returns-2 : tie.Need-returns-2
-returns-2 c = 
+returns-2 c =
     let t = c .before .before in
     let e = t .before .before in
     ticked-answered _ _ _ (passed (e .before .test .ensures) (e .if1 .left)) (t .tick .ensures)

@@ -18,12 +18,12 @@ add-result : tie.Need-add-result
 add-result c = search needs
 
 shared-slice-read-result : tie.Need-shared-slice-read-result
-shared-slice-read-result c = 
+shared-slice-read-result c =
     let z = c .before .before .before .before in
     omega (arith, row-inside _ (sound-facts _ (z .pre .0)) (z .args .d) (z .pre .1))
 
 returns-2 : tie.Need-returns-2
-returns-2 c = 
+returns-2 c =
     let z = c .before .before .before .before in
     rw (not-false (z .args .login) (c .before .before .if1 .left), logged-in (z .args .s .now) (z .pre .0) (z .args .d) (z .pre .1), c .before .row-at .ensures .0)
 

@@ -10,7 +10,7 @@ enum-told : tie.Need-enum-told
 enum-told c = search needs
 
 baud-requires : tie.Need-baud-requires
-baud-requires c κs = 
+baud-requires c κs =
     let t = c .before in
     let z = t .before .before .before .before .before in
     (z .pre .0, z .pre .1, z .pre .2 ∙ ap dataSize (t .enum-told .given .1))
@@ -31,7 +31,7 @@ enum-told-4 : tie.Need-enum-told-4
 enum-told-4 c = search needs
 
 read-block-requires : tie.Need-read-block-requires
-read-block-requires c κs = 
+read-block-requires c κs =
     let t = c .before .before in
     let z = t .before .before .before .before .before in
     (z .pre .0, z .pre .1, z .pre .2 ∙ ap dataSize (t .enum-told4 .given .1), z .pre .3)
@@ -40,7 +40,7 @@ enum-told-5 : tie.Need-enum-told-5
 enum-told-5 c = search needs
 
 write-block-requires : tie.Need-write-block-requires
-write-block-requires c κs = 
+write-block-requires c κs =
     let t = c .before in
     let z = t .before .before .before .before .before in
     (z .pre .0, z .pre .1, z .pre .2 ∙ ap dataSize (t .enum-told5 .given .1))
@@ -49,7 +49,7 @@ enum-told-6 : tie.Need-enum-told-6
 enum-told-6 c = search needs
 
 save-requires : tie.Need-save-requires
-save-requires c κs = 
+save-requires c κs =
     let t = c .before in
     let z = t .before .before .before .before .before in
     (z .pre .0, z .pre .1, z .pre .2 ∙ ap dataSize (t .enum-told6 .given .1))
@@ -58,7 +58,7 @@ enum-told-7 : tie.Need-enum-told-7
 enum-told-7 c = search needs
 
 restore-requires : tie.Need-restore-requires
-restore-requires c κs = 
+restore-requires c κs =
     let t = c .before in
     let z = t .before .before .before .before .before in
     (z .pre .0, z .pre .1, z .pre .2 ∙ ap dataSize (t .enum-told7 .given .1))
@@ -67,7 +67,7 @@ enum-told-8 : tie.Need-enum-told-8
 enum-told-8 c = search needs
 
 set-timer-requires : tie.Need-set-timer-requires
-set-timer-requires c κs = 
+set-timer-requires c κs =
     let t = c .before in
     let z = t .before .before .before .before .before in
     (z .pre .0, z .pre .1, z .pre .2 ∙ ap dataSize (t .enum-told8 .given .1))
@@ -82,7 +82,7 @@ enum-told-10 : tie.Need-enum-told-10
 enum-told-10 c = search needs
 
 login-requires : tie.Need-login-requires
-login-requires c κs = 
+login-requires c κs =
     let t = c .before in
     let z = t .before .before .before .before .before in
     (z .pre .0, z .pre .1, z .pre .2 ∙ ap dataSize (t .enum-told10 .given .1))
@@ -91,7 +91,7 @@ enum-told-11 : tie.Need-enum-told-11
 enum-told-11 c = search needs
 
 read-records-requires : tie.Need-read-records-requires
-read-records-requires c κs = 
+read-records-requires c κs =
     let t = c .before .before in
     let z = t .before .before .before .before .before in
     (z .pre .0, z .pre .1, z .pre .2 ∙ ap dataSize (t .enum-told11 .given .1), z .pre .3)
@@ -118,7 +118,7 @@ same-length : tie.Need-same-length
 same-length c = search needs
 
 returns : tie.Need-returns
-returns c = 
+returns c =
     let x = c in
     let t = x .before .before in
     let a = t .before .before .before .before .before .args in
@@ -128,7 +128,7 @@ same-length-2 : tie.Need-same-length-2
 same-length-2 c = search needs
 
 returns-2 : tie.Need-returns-2
-returns-2 c = 
+returns-2 c =
     let x = c .before .before in
     let t = x .before .before in
     let a = t .before .before .before .before .before .args in
@@ -138,7 +138,7 @@ same-length-3 : tie.Need-same-length-3
 same-length-3 c = search needs
 
 returns-3 : tie.Need-returns-3
-returns-3 c = 
+returns-3 c =
     let x = c .before .before in
     let t = x .before .before in
     let a = t .before .before .before .before .before .args in
@@ -151,7 +151,7 @@ same-length-5 : tie.Need-same-length-5
 same-length-5 c = search needs
 
 returns-4 : tie.Need-returns-4
-returns-4 c = 
+returns-4 c =
     let x = c .before .before in
     rw (x .before .before .before .enum-told4 .given .1) (x .read-block .ensures)
 
@@ -159,7 +159,7 @@ same-length-6 : tie.Need-same-length-6
 same-length-6 c = search needs
 
 returns-5 : tie.Need-returns-5
-returns-5 c = 
+returns-5 c =
     let x = c .before .before in
     let t = x .before .before in
     let a = t .before .before .before .before .before .args in
@@ -169,7 +169,7 @@ same-length-7 : tie.Need-same-length-7
 same-length-7 c = search needs
 
 returns-6 : tie.Need-returns-6
-returns-6 c = 
+returns-6 c =
     let x = c .before .before in
     let t = x .before .before in
     let a = t .before .before .before .before .before .args in
@@ -179,7 +179,7 @@ same-length-8 : tie.Need-same-length-8
 same-length-8 c = search needs
 
 returns-7 : tie.Need-returns-7
-returns-7 c = 
+returns-7 c =
     let x = c .before .before in
     let t = x .before .before in
     let a = t .before .before .before .before .before .args in
@@ -189,7 +189,7 @@ same-length-9 : tie.Need-same-length-9
 same-length-9 c = search needs
 
 returns-8 : tie.Need-returns-8
-returns-8 c = 
+returns-8 c =
     let x = c .before .before in
     let t = x .before .before in
     let a = t .before .before .before .before .before .args in
@@ -202,7 +202,7 @@ same-length-11 : tie.Need-same-length-11
 same-length-11 c = search needs
 
 returns-9 : tie.Need-returns-9
-returns-9 c = 
+returns-9 c =
     let x = c .before .before in
     rw (x .before .before .before .enum-told9 .given .1) (x .send-timer .ensures)
 
@@ -210,7 +210,7 @@ same-length-12 : tie.Need-same-length-12
 same-length-12 c = search needs
 
 returns-10 : tie.Need-returns-10
-returns-10 c = 
+returns-10 c =
     let x = c .before .before in
     let t = x .before .before in
     let a = t .before .before .before .before .before .args in
@@ -223,7 +223,7 @@ same-length-14 : tie.Need-same-length-14
 same-length-14 c = search needs
 
 returns-11 : tie.Need-returns-11
-returns-11 c = 
+returns-11 c =
     let x = c .before .before .before .before in
     rw (x .before .before .before .enum-told11 .given .1) (x .read-records .ensures)
 
@@ -234,7 +234,7 @@ same-length-16 : tie.Need-same-length-16
 same-length-16 c = search needs
 
 returns-12 : tie.Need-returns-12
-returns-12 c = 
+returns-12 c =
     let x = c .before .before in
     rw (x .before .before .before .enum-told12 .given .1) (x .send-table .ensures)
 
@@ -242,7 +242,7 @@ same-length-17 : tie.Need-same-length-17
 same-length-17 c = search needs
 
 returns-13 : tie.Need-returns-13
-returns-13 c = 
+returns-13 c =
     let x = c .before .before in
     let t = x .before .before in
     let a = t .before .before .before .before .before .args in
@@ -252,7 +252,7 @@ same-length-18 : tie.Need-same-length-18
 same-length-18 c = search needs
 
 returns-14 : tie.Need-returns-14
-returns-14 c = 
+returns-14 c =
     let x = c .before .before in
     let t = x .before .before in
     let a = t .before .before .before .before .before .args in

@@ -11,7 +11,7 @@ plain-requires : tie.Need-plain-requires
 plain-requires c κs = search needs
 
 returns : tie.Need-returns
-returns c = 
+returns c =
     let z = c .before .before .before .before .before .before in
     let a = z .args in
     plain-obeyed (a .d) (a .kind) 0x81 _ _ (a .s .now) (a .out .now) (z .pre .0) (z .pre .1) (c .plain .ensures)
@@ -27,7 +27,7 @@ same-length : tie.Need-same-length
 same-length c = search needs
 
 returns-2 : tie.Need-returns-2
-returns-2 c = 
+returns-2 c =
     let z = c .before .before .before .before .before .before .before .before .before in
     let a = z .args in
     let b = c .before .before in

@@ -18,14 +18,14 @@ enum-known-row : tie.Need-enum-known-row
 enum-known-row c = search needs
 
 obey-row-requires : tie.Need-obey-row-requires
-obey-row-requires c κs = 
+obey-row-requires c κs =
     let w = c .before .before .before in
     let e = w .before .before in
     let z = e .before .before .before .before in
     (z .pre .0, z .pre .1, listed-size (z .args .control) (w .row .given .0 .0) (sym (e .decide .ensures) ∙ w .row .given .1), z .pre .2)
 
 returns : tie.Need-returns
-returns c = 
+returns c =
     let t = c .before in
     let e = t .before .before in
     let z = e .before .before .before .before in
@@ -40,7 +40,7 @@ same-length-2 : tie.Need-same-length-2
 same-length-2 c = search needs
 
 returns-2 : tie.Need-returns-2
-returns-2 c = 
+returns-2 c =
     let x = c .before .before .before .before in
     let w = x .before .before .before .before in
     let e = w .before .before in

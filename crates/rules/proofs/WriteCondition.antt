@@ -1,0 +1,78 @@
+-- A configuration write is accepted exactly when length, login, block and block contents are legal; it alters the fourteen octets of
+-- that block in the chosen memory and nothing else, and a write that is not accepted alters nothing. Assumes nothing.
+use mathlib.Core.Path.{_≡_, refl, ap}
+use Prim.Native.Nat.{ℕ, _<_}
+use mathlib.Core.Bool.{Bool, true, false, not, _&&_, true≢false}
+use mathlib.Core.List.{List, []}
+use native.Mathlib.Omega.{arith}
+use lib.ListN.{length, drop, length-drop}
+use lib.Dec.{eqb}
+use borrow.Author.Tests.{eqb-true}
+use Rattle.octets.specs.Tests.{first}
+use Rattle.octets.proofs.Tests.{and-left, and-right}
+use Rattle.frame.specs.declared.Kind.{Kind}
+use Rattle.rules.specs.Config.{blockOf, namesOne, inEeprom, blockAt, written, lineLegal}
+use Rattle.rules.specs.Desk.{Desk, memoryOf}
+use Rattle.rules.specs.Control.{row, commands, rowIn, known}
+use Rattle.rules.specs.Command.{adrOf, Result, result, done, ownTests, effect, tests, unless, obey, answered}
+use Rattle.rules.specs.Writes.{writeLegal, writtenDesk}
+use Rattle.rules.proofs.Facts.{MemoryLegal, DeskLegal}
+use Rattle.rules.proofs.Memories.{block-written, block-kept}
+use Rattle.rules.proofs.Legality.{names-one, memory-of}
+
+-- turned down: nothing changes, no data, a status that is not 0x00
+pub record Turned (d : Desk) (r : Result) : Type 0 where
+  pub same : r .desk ≡ d
+  pub none : r .sent ≡ []
+  pub told : r .status ≡ 0x00 → ⊥
+
+turned : (d : Desk) (status : ℕ) → 0 < status → Turned d (result status [] d)
+unfolding result
+turned d status h = record { same = refl; none = refl; told = λ e. omega arith }
+
+module _ (kind : Kind) (d : Desk) (body : List ℕ) where
+  pub write-accepted : writeLegal d body ≡ true → answered kind d 0x81 body ≡ done (writtenDesk body d)
+  unfolding writeLegal answered known rowIn commands row obey tests first ownTests unless effect writtenDesk
+  write-accepted e =
+      let size : eqb (length body) 15 ≡ true = search (and-left, and-right) in
+      let login : d .loggedIn ≡ true = search (and-left, and-right) in
+      let in′ : not (d .loggedIn) ≡ false = ap not login in
+      let one : namesOne (adrOf body) ≡ true = search (and-left, and-right) in
+      let bytes : not (eqb (blockOf (adrOf body)) 7 && not (lineLegal (drop 1 body))) ≡ true = search (and-left, and-right) in
+      rw (size, in′, one, fits (eqb (blockOf (adrOf body)) 7 && not (lineLegal (drop 1 body))) bytes)
+    where
+      fits : (b : Bool) → not b ≡ true → b ≡ false
+      fits true q = cc
+      fits false q = refl
+
+  pub write-turned : writeLegal d body ≡ false → Turned d (answered kind d 0x81 body)
+  unfolding writeLegal answered known rowIn commands row obey tests first ownTests unless
+  write-turned e =
+      go (eqb (length body) 15) (d .loggedIn) (namesOne (adrOf body)) (eqb (blockOf (adrOf body)) 7 && not (lineLegal (drop 1 body))) refl refl refl refl e
+    where
+      go : (a b c x : Bool) → eqb (length body) 15 ≡ a → d .loggedIn ≡ b → namesOne (adrOf body) ≡ c → (eqb (blockOf (adrOf body)) 7 && not (lineLegal (drop 1 body))) ≡ x
+          → a && b && c && not x ≡ false → Turned d (answered kind d 0x81 body)
+      go false b c x p q r t n = rw p (turned d 0x81 (omega arith))
+      go true false c x p q r t n = let out : not (d .loggedIn) ≡ true = ap not q in rw (p, out) (turned d 0x13 (omega arith))
+      go true true false x p q r t n = let in′ : not (d .loggedIn) ≡ false = ap not q in rw (p, in′, r) (turned d 0x11 (omega arith))
+      go true true true true p q r t n = let in′ : not (d .loggedIn) ≡ false = ap not q in rw (p, in′, r, t) (turned d 0x11 (omega arith))
+      go true true true false p q r t n = absurd (true≢false n)
+
+  -- of an accepted write: the named block holds the bytes, and every other block of that memory is as it was
+  module _ (legal : DeskLegal d) (e : writeLegal d body ≡ true) where
+    low : blockOf (adrOf body) < 16
+    unfolding writeLegal
+    low = names-one (adrOf body) (search (and-left, and-right))
+
+    size : length (drop 1 body) ≡ 14
+    unfolding writeLegal
+    size = let n : length body ≡ 15 = eqb-true (length body) 15 (search (and-left, and-right)) in simp length-drop (omega arith)
+
+    abbrev memory : List ℕ
+    memory = memoryOf (inEeprom (adrOf body)) d
+
+    pub write-there : blockAt (blockOf (adrOf body)) (written (blockOf (adrOf body)) (drop 1 body) memory) ≡ drop 1 body
+    write-there = block-written memory (memory-of d legal (inEeprom (adrOf body))) (blockOf (adrOf body)) low (drop 1 body) size
+
+    pub write-alone : (j : ℕ) → (j ≡ blockOf (adrOf body) → ⊥) → blockAt j (written (blockOf (adrOf body)) (drop 1 body) memory) ≡ blockAt j memory
+    write-alone j n = block-kept memory (memory-of d legal (inEeprom (adrOf body))) (blockOf (adrOf body)) low (drop 1 body) size j n
