@@ -90,52 +90,73 @@ fn sizes(store: &mut [u8], before: &[u8], out: &mut [u8]) {
     probe(b"one octet more", &mut long, &long_before, out);
     if 16383 <= store.len() {
         probe(b"one octet less", &mut store[..16383], before, out);
-        probe(b"no octets", &mut store[..0], before, out);
     }
 }
 
 // The rows end at 24758, the entries at 16385; the entries begin in the last octet of the rows, the rows in that of the header.
-fn areas(store: &mut [u8], before: &mut [u8], out: &mut [u8]) {
-    two(b"rows outside", store, before, out, 0, 0x3E, 1, 0x5E);
-    two(b"entries outside", store, before, out, 2, 0x24, 3, 0x01);
-    one(b"entries in rows", store, before, out, 3, 0x5D);
-    one(b"rows in header", store, before, out, 1, 5);
+fn areas(k: u8, store: &mut [u8], before: &mut [u8], out: &mut [u8]) {
+    match k {
+        0 => two(b"rows outside", store, before, out, 0, 0x3E, 1, 0x5E),
+        1 => two(b"entries outside", store, before, out, 2, 0x24, 3, 0x01),
+        2 => one(b"entries in rows", store, before, out, 3, 0x5D),
+        3 => one(b"rows in header", store, before, out, 1, 5),
+        _ => show::word(b""),
+    }
 }
 
-fn counts(store: &mut [u8], before: &mut [u8], out: &mut [u8]) {
-    one(b"owner", store, before, out, TABLE, 8);
-    one(b"login", store, before, out, ROWS + 450, 2);
-    one(b"table start", store, before, out, ROWS + 457, 64);
-    one(b"due", store, before, out, ROWS + 456, 6);
+// Counts out of range.
+fn counts(k: u8, store: &mut [u8], before: &mut [u8], out: &mut [u8]) {
+    match k {
+        0 => one(b"owner", store, before, out, TABLE, 8),
+        1 => one(b"login", store, before, out, ROWS + 450, 2),
+        2 => one(b"table start", store, before, out, ROWS + 457, 64),
+        3 => one(b"due", store, before, out, ROWS + 456, 6),
+        _ => show::word(b""),
+    }
 }
 
-fn legal(store: &mut [u8], before: &mut [u8], out: &mut [u8]) {
-    one(b"hour", store, before, out, ROWS + 451, 24);
-    one(b"minute", store, before, out, ROWS + 452, 60);
-    two(b"milliseconds", store, before, out, ROWS + 453, 0xEA, ROWS + 454, 0x60);
-    one(b"use in ram", store, before, out, ROWS + 98, 1);
-    one(b"separator in ram", store, before, out, ROWS + 99, 0x21);
-    one(b"end in eeprom", store, before, out, ROWS + 224 + 101, 0x03);
-    one(b"length in eeprom", store, before, out, ROWS + 224 + 111, 0x44);
-    one(b"last desk", store, before, out, ROWS + 7 * 1099 + 451, 24);
+// Timers and blocks 7.
+fn legal(k: u8, store: &mut [u8], before: &mut [u8], out: &mut [u8]) {
+    match k {
+        0 => one(b"hour", store, before, out, ROWS + 451, 24),
+        1 => one(b"minute", store, before, out, ROWS + 452, 60),
+        2 => two(b"milliseconds", store, before, out, ROWS + 453, 0xEA, ROWS + 454, 0x60),
+        3 => one(b"use in ram", store, before, out, ROWS + 98, 1),
+        4 => one(b"separator in ram", store, before, out, ROWS + 99, 0x21),
+        5 => one(b"end in eeprom", store, before, out, ROWS + 224 + 101, 0x03),
+        6 => one(b"length in eeprom", store, before, out, ROWS + 224 + 111, 0x44),
+        7 => one(b"last desk", store, before, out, ROWS + 7 * 1099 + 451, 24),
+        _ => show::word(b""),
+    }
 }
 
-fn locks(store: &mut [u8], before: &mut [u8], out: &mut [u8]) {
-    one(b"lock of none", store, before, out, ROWS + 459 + 9, 0);
-    one(b"lock too long", store, before, out, ROWS + 459 + 9, 56);
-    one(b"locked twice", store, before, out, ROWS + 459 + 17, 0);
+// Locks.
+fn locks(k: u8, store: &mut [u8], before: &mut [u8], out: &mut [u8]) {
+    match k {
+        0 => one(b"lock of none", store, before, out, ROWS + 459 + 9, 0),
+        1 => one(b"lock too long", store, before, out, ROWS + 459 + 9, 56),
+        2 => one(b"locked twice", store, before, out, ROWS + 459 + 17, 0),
+        _ => show::word(b""),
+    }
+}
+
+// Sights tags at desk 0, of which those that are locked are ignored, and notes the store.
+fn sight(store: &mut [u8], before: &mut [u8], n: u8) {
+    show::sight_many(store, 0, n);
+    show::place(before, 0, store);
 }
 
 // With 63 records and then with 64 at desk 0. Entry 5 is desk 1's: given to desk 0, this holds 65.
-fn marks(store: &mut [u8], before: &mut [u8], out: &mut [u8]) {
-    show::sight_many(store, 0, 63);
-    show::place(before, 0, store);
-    one(b"mark", store, before, out, ROWS + 455, 1);
-    show::sighting(store, b"one more", 0, 0x1001, 1);
-    show::place(before, 0, store);
-    one(b"mark two", store, before, out, ROWS + 455, 2);
-    one(b"share", store, before, out, TABLE + 5 * 14, 0);
-    one(b"locks", store, before, out, ROWS + 458, 65);
+fn marks(k: u8, store: &mut [u8], before: &mut [u8], out: &mut [u8]) {
+    match k {
+        0 => sight(store, before, 63),
+        1 => one(b"mark", store, before, out, ROWS + 455, 1),
+        2 => sight(store, before, 64),
+        3 => one(b"mark two", store, before, out, ROWS + 455, 2),
+        4 => one(b"share", store, before, out, TABLE + 5 * 14, 0),
+        5 => one(b"locks", store, before, out, ROWS + 458, 65),
+        _ => show::word(b""),
+    }
 }
 
 // Gives entry i to desk i % 8, for all 512 and no more.
@@ -149,33 +170,63 @@ fn give_all(store: &mut [u8]) {
     show::poke(store, 5, 0);
 }
 
-// A full table; what is at the edge of the rules and sound is answered.
-fn edges(store: &mut [u8], before: &mut [u8], out: &mut [u8]) {
+// A full table.
+fn fill(store: &mut [u8], before: &mut [u8]) {
     give_all(store);
     give_all(before);
-    one(b"entries used", store, before, out, 5, 1);
-    both(store, before, ROWS + 455, 1);
-    both(store, before, ROWS + 456, 64);
-    both(store, before, ROWS + 457, 63);
-    probe(b"full and sound", store, before, out);
 }
 
-fn broken(store: &mut [u8], out: &mut [u8]) {
-    let mut space = [0u8; 16384];
-    let before: &mut [u8] = &mut space;
+// A table that is full; and what is at the edge of the rules and sound, which is answered.
+fn edges(k: u8, store: &mut [u8], before: &mut [u8], out: &mut [u8]) {
+    match k {
+        0 => fill(store, before),
+        1 => one(b"entries used", store, before, out, 5, 1),
+        2 => both(store, before, ROWS + 455, 1),
+        3 => both(store, before, ROWS + 456, 64),
+        4 => both(store, before, ROWS + 457, 63),
+        5 => probe(b"full and sound", store, before, out),
+        _ => show::word(b""),
+    }
+}
+
+// Step k of part p, where there is one.
+fn step(p: u8, k: u8, store: &mut [u8], before: &mut [u8], out: &mut [u8]) {
+    match p {
+        0 => areas(k, store, before, out),
+        1 => counts(k, store, before, out),
+        2 => legal(k, store, before, out),
+        3 => locks(k, store, before, out),
+        4 => marks(k, store, before, out),
+        _ => edges(k, store, before, out),
+    }
+}
+
+fn part(p: u8, store: &mut [u8], before: &mut [u8], out: &mut [u8]) {
+    let mut k: u8 = 0;
+    while k < 8 {
+        step(p, k, store, before, out);
+        k += 1;
+    }
+}
+
+fn rules(store: &mut [u8], before: &mut [u8], out: &mut [u8]) {
+    let mut p: u8 = 0;
+    while p < 6 {
+        part(p, store, before, out);
+        p += 1;
+    }
+}
+
+fn broken(store: &mut [u8], before: &mut [u8], out: &mut [u8]) {
     made(store, out);
     show::place(before, 0, store);
     sizes(store, before, out);
-    areas(store, before, out);
-    counts(store, before, out);
-    legal(store, before, out);
-    locks(store, before, out);
-    marks(store, before, out);
-    edges(store, before, out);
+    rules(store, before, out);
 }
 
 fn main() {
     let mut store = [0u8; 16384];
+    let mut before = [0u8; 16384];
     let mut out = [0x5Au8; 842];
-    broken(&mut store, &mut out);
+    broken(&mut store, &mut before, &mut out);
 }

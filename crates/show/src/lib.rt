@@ -193,6 +193,12 @@ pub fn sighting(store: &mut [u8], name: &[u8], desk: u64, uid: u64, mask: u8) {
     line(name, b"", a);
 }
 
+// A line with the answer to making a fresh store.
+pub fn fresh(store: &mut [u8], name: &[u8]) {
+    let a = depot::fresh(store);
+    line(name, b"", a);
+}
+
 // A line with the answer to a tick.
 pub fn tick(store: &mut [u8], name: &[u8]) {
     let a = depot::tick(store);
@@ -226,4 +232,13 @@ pub fn sight_many(store: &mut [u8], desk: u8, n: u8) -> u64 {
         i += 1;
     }
     count
+}
+
+// A line with how many of n tags are recorded.
+pub fn many(store: &mut [u8], name: &[u8], desk: u8, n: u8) {
+    let count = sight_many(store, desk, n);
+    word(name);
+    word(b" ");
+    number(count);
+    word(b"\n");
 }
