@@ -1,12 +1,11 @@
 -- From what a call did to what it owes: one law for each way out. Assumes nothing.
-use Prim.Native.Nat.{ℕ, _+_, _<_, _≤_, _^_}
-use mathlib.Core.Path.{_≡_, refl, sym, ap, _∙_}
-use mathlib.Core.Bool.{true, false, cond}
-use mathlib.Core.List.{List, [], _∷_, map}
+use Prim.Native.Nat.{ℕ, _+_, _≤_}
+use mathlib.Core.Path.{_≡_, refl, ap, _∙_}
+use mathlib.Core.Bool.{true, false}
+use mathlib.Core.List.{List, _∷_}
 use mathlib.Core.Option.{none, some}
 use native.Mathlib.Omega.{arith}
-use lib.ListN.{length, set}
-use lib.Dec.{eqb}
+use lib.ListN.{length}
 use Rattle.octets.specs.Tests.{first}
 use Rattle.octets.specs.Parts.{put}
 use Rattle.octets.specs.Numbers.{Octets}
@@ -22,20 +21,17 @@ use Rattle.frame.specs.Judged.{judged, dataOf}
 use Rattle.frame.specs.Sealed.{frameOf, sealedAs, replyIn}
 use Rattle.rules.specs.Control.{known}
 use Rattle.rules.specs.Command.{Result, answered}
-use Rattle.rules.specs.Sighting.{seenAs, afterSeen, ticked}
-use Rattle.rules.specs.Box.{Box, Event, frame, sighting, tick, refused, reply, seen, ok, request, served, sighted, placed, unlessRefused, frameRefusals, sightingRefusals, step, deskAt}
-use Rattle.rules.proofs.Replies.{Carried, obey-carried}
-use Rattle.store.specs.View.{view}
+use Rattle.rules.specs.Box.{Event, frame, sighting, tick, request, served, sighted, placed, unlessRefused, frameRefusals, sightingRefusals, step}
+use Rattle.rules.proofs.Replies.{obey-carried}
 use Rattle.store.specs.Sound.{sound}
 use Rattle.desk.specs.declared.Reply.{Reply as DeskReply}
-use Rattle.desk.specs.Obeyed.{kept, Says, Done as DeskDone, Obeyed, Sighted as DeskSighted, Ticked}
+use Rattle.desk.specs.Obeyed.{kept, Obeyed, Sighted as DeskSighted, Ticked}
 use Rattle.desk.proofs.Doing.{kept-legal}
 use Rattle.rules.specs.declared.Seen.{Seen}
-use Rattle.depot.specs.declared.Answer.{Answer}
 use Rattle.depot.specs.declared.Answer.the-variants.{Refused, Reply as Replied, Sighted, Done}
 use Rattle.depot.proofs.Refused.{accepted}
 use Rattle.depot.proofs.Replying.{reply-size, reply-octets}
-use Rattle.depot.specs.Called.{stepOn, Ended, Called}
+use Rattle.depot.specs.Called.{stepOn, Called}
 
 -- ---- refused
 

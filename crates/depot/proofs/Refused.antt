@@ -12,7 +12,7 @@ use Rattle.frame.specs.declared.Frame.{Frame}
 use Rattle.frame.specs.declared.Refusal.{Refusal}
 use Rattle.frame.specs.declared.Refusal.the-variants.{SmallBuffer, NoDesk, OutOfRange}
 use Rattle.frame.specs.declared.Judged.the-variants.{Refused, Sound}
-use Rattle.frame.specs.Judged.{faults, partsOf, verdict, judged}
+use Rattle.frame.specs.Judged.{faults, verdict, judged}
 use Rattle.frame.proofs.Verdict.{sound-parts}
 use Rattle.rules.specs.Box.{request, noDesk, frameRefusals, sightingRefusals}
 

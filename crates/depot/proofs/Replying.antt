@@ -1,6 +1,6 @@
 -- A reply is sealed around the data that stand at their place, and the octets after it stay. Assumes nothing.
 use Prim.Native.Nat.{ℕ, _+_, _≤_}
-use mathlib.Core.Path.{_≡_, refl, sym, ap, _∙_}
+use mathlib.Core.Path.{_≡_, ap, _∙_}
 use mathlib.Core.Bool.{true}
 use mathlib.Core.List.{List, _∷_}
 use native.Mathlib.Omega.{arith}
@@ -10,7 +10,6 @@ use Rattle.octets.proofs.Puts.{put-length, part-put-same, put-over}
 use Rattle.frame.specs.declared.Kind.{Kind}
 use Rattle.frame.specs.declared.Kind.the-variants.{Standard, Advanced}
 use Rattle.frame.specs.declared.Way.the-variants.{Reply}
-use Rattle.frame.specs.declared.Sealed.{Sealed}
 use Rattle.frame.specs.declared.Sealed.the-variants.{Octets}
 use Rattle.frame.specs.Shape.{shapeOf, overhead}
 use Rattle.frame.specs.Sealed.{frameOf, fitsIn, sealedAs, replyIn}

@@ -1,7 +1,7 @@
 -- The write condition, of the call itself: a frame with 0x81 that no test refuses (frame, checksum, desk) is answered 0x00 exactly when
 -- length, login, block and block contents are legal; the store then says the desk with that block written, and else what it said before.
 -- Assumes nothing.
-use mathlib.Core.Path.{_≡_, refl, sym, ap, _∙_}
+use mathlib.Core.Path.{_≡_, sym, ap, subst, _∙_}
 use Prim.Native.Nat.{ℕ}
 use mathlib.Core.Bool.{true, false}
 use mathlib.Core.List.{List, [], _∷_}
@@ -15,7 +15,7 @@ use Rattle.frame.specs.Sealed.{frameOf}
 use Rattle.rules.specs.Desk.{Desk, freshDesk}
 use Rattle.rules.specs.Command.{result, done, answered}
 use Rattle.rules.specs.Writes.{writeLegal, writtenDesk}
-use Rattle.rules.specs.Box.{frame, reply, request, served, placed, unlessRefused, frameRefusals, step, deskAt}
+use Rattle.rules.specs.Box.{frame, request, served, placed, unlessRefused, frameRefusals, step, deskAt}
 use Rattle.rules.proofs.WriteCondition.{Turned, write-accepted, write-turned}
 use Rattle.store.specs.View.{view}
 use Rattle.store.specs.Sound.{sound}
@@ -45,7 +45,8 @@ module _ (f s out : List ℕ) (a : Answer) (s′ out′ : List ℕ) (called : Ca
 
   pub turned : writeLegal desk body ≡ false → view s′ ≡ view s
   unfolding stepOn step unlessRefused placed served deskAt
-  turned no =
-      let is : Turned desk (answered (request f .kind) desk (request f .control) body) = rw write (write-turned (request f .kind) desk body no) in
+  turned illegal =
+      let is : Turned desk (answered (request f .kind) desk (request f .control) body) =
+      subst (λ (c : ℕ). Turned desk (answered (request f .kind) desk c body)) (sym write) (write-turned (request f .kind) desk body illegal) in
       let t = rw (e, passed, is .same) at (called .ended) in
       t .2 .1 ∙ set-getD (view s) (request f .address) freshDesk

@@ -1,13 +1,11 @@
 -- From a desk's row, or its entries, anew to what the store then says. Assumes nothing.
-use Prim.Native.Nat.{ℕ, _+_, _*_, _≤_, _<_}
-use mathlib.Core.Path.{_≡_, refl, sym, ap, _∙_}
+use Prim.Native.Nat.{ℕ, _≤_, _<_}
+use mathlib.Core.Path.{_≡_, sym, ap, _∙_}
 use mathlib.Core.Bool.{true}
-use mathlib.Core.List.{List, []}
-use native.Mathlib.Omega.{arith}
-use lib.ListN.{length, set, getD}
+use mathlib.Core.List.{List}
+use lib.ListN.{length, set}
 use lib.Seq.{set-getD, set-set}
-use lib.Dec.{lit<}
-use Rattle.octets.specs.Parts.{part, put}
+use Rattle.octets.specs.Parts.{put}
 use Rattle.octets.specs.Numbers.{number, Octets}
 use Rattle.table.specs.Entries.{desks, entryCount, entries, recordsOf}
 use Rattle.rules.specs.Desk.{Desk, freshDesk}
@@ -18,7 +16,7 @@ use Rattle.store.specs.Rows.{field}
 use Rattle.store.specs.View.{deskIn, inUse, view}
 use Rattle.store.specs.Sound.{sound, rowSound, tableSound}
 use Rattle.store.proofs.Changes.{Sound, sound-facts, sound-test}
-use Rattle.store.proofs.Anew.{row-length, row-sound, desk-is, Left, row-anew, refilled, entries-anew}
+use Rattle.store.proofs.Anew.{row-length, row-sound, desk-is, Left, row-anew, entries-anew}
 use Rattle.store.proofs.LegalView.{RowSound, row-facts, legal-row, legal-at}
 use Rattle.desk.specs.Obeyed.{kept, Says}
 

@@ -1,32 +1,30 @@
 -- The order of tests, and what a command's answer is where they pass or fail. Assumes nothing.
-use Prim.Native.Nat.{ℕ, _+_, _<_, _≤_}
+use Prim.Native.Nat.{ℕ, _+_, _<_}
 use mathlib.Core.Path.{_≡_, refl, sym, ap, _∙_}
-use mathlib.Core.Bool.{Bool, true, false, not, _&&_}
+use mathlib.Core.Bool.{true, false, not, _&&_}
 use mathlib.Core.List.{List, [], _∷_}
 use native.Mathlib.Omega.{arith}
 use lib.ListN.{length, getD}
 use lib.Dec.{eqb, lit<}
 use borrow.Author.Tests.{eq-eqb, ne-eqb}
 use Rattle.octets.specs.Tests.{first}
-use Rattle.octets.specs.Parts.{part, put}
-use Rattle.octets.specs.Numbers.{number}
+use Rattle.octets.specs.Parts.{put}
 use Rattle.octets.specs.Areas.{upto}
 use Rattle.octets.proofs.Each.{All}
 use Rattle.octets.proofs.Puts.{part-at}
 use Rattle.octets.proofs.Numbers.{number-at}
-use Rattle.table.specs.Entries.{desks, recordsOf}
+use Rattle.table.specs.Entries.{desks}
 use Rattle.frame.specs.declared.Kind.{Kind}
 use Rattle.rules.specs.declared.Command.{Command}
 use Rattle.rules.specs.declared.Row.{Row}
-use Rattle.rules.specs.declared.Known.{Known}
 use Rattle.rules.specs.declared.Known.the-variants.{Listed, Unknown}
 use Rattle.rules.specs.Desk.{Desk}
-use Rattle.rules.specs.Control.{row, commands, rowIn, known}
+use Rattle.rules.specs.Control.{row, commands, known}
 use Rattle.rules.specs.Command.{Result, result, tests, unless, obey, answered}
 use Rattle.rules.proofs.Legality.{row-found}
 use Rattle.store.specs.Layout.{rowWidth, rowAt, rowOf}
 use Rattle.store.specs.Rows.{field, fields}
-use Rattle.store.specs.View.{deskOf, deskIn, inUse}
+use Rattle.store.specs.View.{deskOf}
 use Rattle.store.specs.Sound.{sound}
 use Rattle.desk.specs.declared.Reply.{Reply}
 use Rattle.desk.specs.Obeyed.{kept, ruled, Done, Quiet, dataAt, Obeyed, dataSize}

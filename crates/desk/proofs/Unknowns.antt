@@ -6,7 +6,7 @@ use borrow.Author.Tests.{ne-eqb}
 use Rattle.octets.proofs.Each.{All}
 use Rattle.rules.specs.declared.Row.{Row}
 use Rattle.rules.specs.declared.Known.the-variants.{Unknown}
-use Rattle.rules.specs.Control.{row, commands, rowIn, known}
+use Rattle.rules.specs.Control.{commands, rowIn, known}
 
 missed : (rs : List Row) (control : ℕ) → All (λ (r : Row). control ≡ r .control → ⊥) rs → rowIn rs control ≡ Unknown
 unfolding rowIn

@@ -1,6 +1,6 @@
 -- Slips that have been made, each as a short day at the box with the answers that the paper gives. Assumes nothing.
 use mathlib.Core.Path.{_≡_, refl}
-use Prim.Native.Nat.{ℕ, zero, suc}
+use Prim.Native.Nat.{ℕ}
 use mathlib.Core.List.{List, [], _∷_, _++_}
 use lib.ListN.{replicate}
 use Rattle.frame.specs.declared.Kind.the-variants.{Standard}

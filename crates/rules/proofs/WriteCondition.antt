@@ -16,7 +16,7 @@ use Rattle.rules.specs.Desk.{Desk, memoryOf}
 use Rattle.rules.specs.Control.{row, commands, rowIn, known}
 use Rattle.rules.specs.Command.{adrOf, Result, result, done, ownTests, effect, tests, unless, obey, answered}
 use Rattle.rules.specs.Writes.{writeLegal, writtenDesk}
-use Rattle.rules.proofs.Facts.{MemoryLegal, DeskLegal}
+use Rattle.rules.proofs.Facts.{DeskLegal}
 use Rattle.rules.proofs.Memories.{block-written, block-kept}
 use Rattle.rules.proofs.Legality.{names-one, memory-of}
 

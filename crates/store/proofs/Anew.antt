@@ -1,9 +1,9 @@
 -- A desk's row anew, or the entries anew: the store stays sound, and the view changes at that desk alone. Assumes nothing.
-use Prim.Native.Nat.{ℕ, suc, _+_, _*_, _≤_, _<_}
-use mathlib.Core.Path.{_≡_, refl, sym, ap, _∙_}
-use mathlib.Core.List.{List, [], _∷_}
-use mathlib.Core.Bool.{true, _&&_}
-use native.Mathlib.Nat.{add-zero, zero-add, mul-comm}
+use Prim.Native.Nat.{ℕ, _+_, _*_, _≤_, _<_}
+use mathlib.Core.Path.{_≡_, sym, ap, _∙_}
+use mathlib.Core.List.{List, []}
+use mathlib.Core.Bool.{true}
+use native.Mathlib.Nat.{add-zero, zero-add}
 use native.Mathlib.Decide.{ℕ-discrete}
 use native.Mathlib.Omega.{arith}
 use lib.ListN.{length, getD, set}
@@ -12,18 +12,18 @@ use lib.Dec.{lit<}
 use Rattle.octets.specs.Parts.{part, put, rows}
 use Rattle.octets.specs.Numbers.{octets}
 use Rattle.octets.specs.Areas.{upto, change}
-use Rattle.octets.proofs.Puts.{put-length, put-whole, part-length, part-part, part-put-same}
+use Rattle.octets.proofs.Puts.{put-length, put-whole, part-length, part-put-same}
 use Rattle.octets.proofs.Rows.{rows-length, rows-put, rows-at}
 use Rattle.table.specs.Entries.{desks, entryCount, entries, recordsOf}
 use Rattle.rules.specs.Desk.{freshDesk}
 use Rattle.rules.specs.Box.{deskAt}
 use Rattle.store.specs.Layout.{recounted, storeSize, rowWidth, sizeOf, header, startOf, usedOf, area, areas, rowAt, rowOf}
-use Rattle.store.specs.View.{deskIn, boxFrom, rowsIn, entriesIn, inUse, viewOf, view}
+use Rattle.store.specs.View.{deskIn, rowsIn, entriesIn, inUse, viewOf, view}
 use Rattle.store.specs.Sound.{rowSound, tableSound, deskSound}
 use Rattle.store.proofs.LentAreas.{row-in}
 use Rattle.store.proofs.Places.{used-counted, counted-fine}
 use Rattle.store.proofs.Boxes.{box-at, box-row, box-records}
-use Rattle.store.proofs.Changes.{Sound, area-length, area-0, into, into-area, header-kept, header-counted, header-length, used-now, into-count}
+use Rattle.store.proofs.Changes.{Sound, area-length, into-area, header-kept, header-counted, header-length, into-count}
 
 -- ---- the row of a desk
 

@@ -1,33 +1,26 @@
 -- What a write leaves of the store: the facts of a sound one, the areas after a put, a row anew, the entries anew. Assumes nothing.
-use Prim.Native.Nat.{ℕ, zero, suc, _+_, _*_, _≤_, _<_}
-use mathlib.Core.Path.{_≡_, refl, sym, ap, _∙_}
-use mathlib.Core.List.{List, [], _∷_}
-use mathlib.Core.Bool.{true, _&&_}
-use native.Mathlib.Nat.{zero-add, add-zero, mul-comm}
-use native.Mathlib.Decide.{ℕ-discrete}
+use Prim.Native.Nat.{ℕ, _+_, _≤_, _<_}
+use mathlib.Core.Path.{_≡_, refl}
+use mathlib.Core.List.{List}
+use mathlib.Core.Bool.{true}
 use native.Mathlib.Omega.{arith}
-use lib.ListN.{length, getD, set}
-use lib.Seq.{getD-set-same, getD-set-other}
-use lib.Dec.{eqb, lit<}
+use lib.ListN.{length}
+use lib.Dec.{lit<}
 use borrow.Author.Tests.{eqb-true, eq-eqb}
 use Rattle.octets.specs.Tests.{every}
-use Rattle.octets.specs.Parts.{part, put, rows}
+use Rattle.octets.specs.Parts.{part, put}
 use Rattle.octets.specs.Numbers.{octets}
-use Rattle.octets.specs.Areas.{upto, change}
-use Rattle.octets.proofs.Tests.{and-left, and-right, and-both}
+use Rattle.octets.specs.Areas.{change}
+use Rattle.octets.proofs.Tests.{and-left, and-right}
 use Rattle.octets.proofs.Every.{every-at, every-all}
-use Rattle.octets.proofs.Puts.{put-length, put-whole, part-length, part-put-away, part-put-in, part-part, apart-within}
+use Rattle.octets.proofs.Puts.{part-length, part-put-away, part-put-in, apart-within}
 use Rattle.octets.proofs.Numbers.{octets-length}
-use Rattle.octets.proofs.Areas.{upto-at, upto-change}
-use Rattle.octets.proofs.Rows.{rows-length, rows-put, rows-at}
-use Rattle.table.specs.Entries.{width, desks, entryCount, entries, recordsOf}
-use Rattle.rules.specs.Desk.{Desk, freshDesk}
-use Rattle.rules.specs.Box.{Box, deskAt}
-use Rattle.store.specs.Layout.{recounted, storeSize, rowWidth, sizeOf, header, startOf, usedOf, area, areas, rowAt}
-use Rattle.store.specs.View.{deskIn, boxFrom, rowsIn, entriesIn, viewOf, view}
-use Rattle.store.specs.Sound.{fine, rowSound, tableSound, deskSound, contents, sound}
-use Rattle.store.proofs.Places.{Fine, fine-facts, fine-test, start-counted, used-counted, counted-fine}
-use Rattle.store.proofs.Boxes.{box-at, box-row, box-records}
+use Rattle.octets.proofs.Areas.{upto-change}
+use Rattle.table.specs.Entries.{desks, entryCount}
+use Rattle.store.specs.Layout.{recounted, storeSize, sizeOf, header, startOf, usedOf, area, areas}
+use Rattle.store.specs.View.{rowsIn, entriesIn}
+use Rattle.store.specs.Sound.{fine, tableSound, deskSound, contents, sound}
+use Rattle.store.proofs.Places.{Fine, fine-facts, fine-test, start-counted, used-counted}
 
 -- ---- the tests and the facts
 

@@ -1,28 +1,26 @@
 -- A sound row says a legal desk, and a row that says a legal desk is sound; a sound store has a legal view. Assumes nothing.
-use Prim.Native.Nat.{ℕ, suc, _+_, _*_, _≤_, _<_, _^_}
-use mathlib.Core.Path.{_≡_, refl, sym, ap, _∙_}
+use Prim.Native.Nat.{ℕ, _*_, _≤_, _<_}
+use mathlib.Core.Path.{_≡_, refl, _∙_}
 use mathlib.Core.List.{List, [], _∷_}
-use mathlib.Core.Bool.{Bool, true, false, cond, not, _&&_, _||_}
+use mathlib.Core.Bool.{Bool, true, false, cond, not, _||_}
 use native.Mathlib.Omega.{arith}
-use lib.ListN.{length, getD, drop, length-drop}
-use lib.Dec.{eqb, leb, ltb, lit<, lit≤}
+use lib.ListN.{length, length-drop}
+use lib.Dec.{eqb, lit<}
 use borrow.Author.Tests.{leb-true, ltb-true, eqb-true, le-leb, lt-ltb, eq-eqb}
-use Rattle.octets.specs.Parts.{part}
 use Rattle.octets.specs.Numbers.{number, Octets}
 use Rattle.octets.specs.Areas.{upto}
 use Rattle.octets.proofs.Tests.{and-left, and-right}
-use Rattle.octets.proofs.Puts.{part-length}
 use Rattle.octets.proofs.Numbers.{number-lt, octets-part}
 use Rattle.octets.proofs.Each.{All, Octet, octets-each, all-drop}
 use Rattle.octets.proofs.Rows.{Wide, rows-wide, rows-octets}
 use Rattle.timer.specs.Clock.{timerLegal, timerFrom}
 use Rattle.locks.specs.Locks.{mostLocks, locksIn, locksLegal}
 use Rattle.locks.proofs.Stored.{locks-in-fit, locks-in-length}
-use Rattle.locks.proofs.Sound.{LocksLegal, locks-facts, locks-test}
+use Rattle.locks.proofs.Sound.{locks-facts, locks-test}
 use Rattle.table.specs.Entries.{width, desks, share, owner, body, recordsOf, ownersBelow, sharesKept}
 use Rattle.table.proofs.Shares.{sharesKept-at}
 use Rattle.rules.specs.Config.{blockAt, lineLegal}
-use Rattle.rules.proofs.Facts.{MemoryLegal, RecordLegal, TableLegal, DeskLegal, BoxLegal}
+use Rattle.rules.proofs.Facts.{MemoryLegal, RecordLegal, DeskLegal}
 use Rattle.rules.specs.Box.{deskAt}
 use Rattle.store.specs.Layout.{rowWidth, sizeOf, header, startOf, usedOf, area, areas, rowAt, rowOf}
 use Rattle.store.specs.Rows.{fieldAt, fieldSize, field, fields}

@@ -1,5 +1,5 @@
 -- The fresh store, octet for octet. Assumes nothing.
-use Prim.Native.Nat.{ℕ, _+_, _*_, _-_}
+use Prim.Native.Nat.{ℕ, _+_, _*_}
 use mathlib.Core.List.{List, _++_}
 use lib.ListN.{replicate}
 use Rattle.octets.specs.Parts.{put, concat}

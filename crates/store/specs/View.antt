@@ -8,7 +8,7 @@ use Rattle.octets.specs.Numbers.{number}
 use Rattle.timer.specs.Clock.{timerFrom}
 use Rattle.locks.specs.Locks.{locksIn}
 use Rattle.table.specs.Entries.{desks, entries, recordsOf}
-use Rattle.rules.specs.Desk.{Desk, Table}
+use Rattle.rules.specs.Desk.{Desk}
 use Rattle.rules.specs.Box.{Box}
 use Rattle.store.specs.Layout.{rowWidth, usedOf, areas}
 use Rattle.store.specs.Rows.{fields}
