@@ -158,7 +158,7 @@ fn locks(k: u8, store: &mut [u8], before: &mut [u8], out: &mut [u8]) {
 
 // Sights tags at desk 0, of which those that are locked are ignored, and notes the store.
 fn sight(store: &mut [u8], before: &mut [u8], n: u8) {
-    show::sight_many(store, 0, n);
+    show::many(store, b"sight many", 0, n);
     show::place(before, 0, store);
 }
 
