@@ -120,11 +120,27 @@ fn legal(k: u8, store: &mut [u8], before: &mut [u8], out: &mut [u8]) {
     match k {
         0 => one(b"hour", store, before, out, ROWS + 451, 24),
         1 => one(b"minute", store, before, out, ROWS + 452, 60),
-        2 => two(b"milliseconds", store, before, out, ROWS + 453, 0xEA, ROWS + 454, 0x60),
+        2 => two(
+            b"milliseconds",
+            store,
+            before,
+            out,
+            ROWS + 453,
+            0xEA,
+            ROWS + 454,
+            0x60,
+        ),
         3 => one(b"use in ram", store, before, out, ROWS + 98, 1),
         4 => one(b"separator in ram", store, before, out, ROWS + 99, 0x21),
         5 => one(b"end in eeprom", store, before, out, ROWS + 224 + 101, 0x03),
-        6 => one(b"length in eeprom", store, before, out, ROWS + 224 + 111, 0x44),
+        6 => one(
+            b"length in eeprom",
+            store,
+            before,
+            out,
+            ROWS + 224 + 111,
+            0x44,
+        ),
         7 => one(b"last desk", store, before, out, ROWS + 7 * 1099 + 451, 24),
         _ => show::word(b""),
     }
@@ -142,7 +158,7 @@ fn locks(k: u8, store: &mut [u8], before: &mut [u8], out: &mut [u8]) {
 
 // Sights tags at desk 0, of which those that are locked are ignored, and notes the store.
 fn sight(store: &mut [u8], before: &mut [u8], n: u8) {
-    show::sight_many(store, 0, n);
+    show::many(store, b"sight many", 0, n);
     show::place(before, 0, store);
 }
 

@@ -7,8 +7,22 @@ fn blocks(k: u8, store: &mut [u8], out: &mut [u8]) {
         0 => show::fresh(store, b"fresh"),
         1 => show::standard(store, out, b"login wrong", 0, 0xA0, b"\x00\x00\x00\x01"),
         2 => show::standard(store, out, b"login", 0, 0xA0, b"\x00\x00\x00\x00"),
-        3 => show::standard(store, out, b"write ram", 0, 0x81, b"\x02\x01\x02\x03\x04\x05\x06\x07\x08\x09\x0A\x0B\x0C\x0D\x0E"),
-        4 => show::standard(store, out, b"write eeprom", 0, 0x81, b"\x82\xA1\xA2\xA3\xA4\xA5\xA6\xA7\xA8\xA9\xAA\xAB\xAC\xAD\xAE"),
+        3 => show::standard(
+            store,
+            out,
+            b"write ram",
+            0,
+            0x81,
+            b"\x02\x01\x02\x03\x04\x05\x06\x07\x08\x09\x0A\x0B\x0C\x0D\x0E",
+        ),
+        4 => show::standard(
+            store,
+            out,
+            b"write eeprom",
+            0,
+            0x81,
+            b"\x82\xA1\xA2\xA3\xA4\xA5\xA6\xA7\xA8\xA9\xAA\xAB\xAC\xAD\xAE",
+        ),
         5 => show::standard(store, out, b"read ram", 0, 0x80, b"\x02"),
         6 => show::standard(store, out, b"read eeprom", 0, 0x80, b"\x82"),
         7 => show::standard(store, out, b"read other desk", 3, 0x80, b"\x02"),
@@ -23,7 +37,14 @@ fn blocks(k: u8, store: &mut [u8], out: &mut [u8]) {
 // Block 7, and what is saved and restored.
 fn saves(k: u8, store: &mut [u8], out: &mut [u8]) {
     match k {
-        0 => show::standard(store, out, b"write line", 0, 0x81, b"\x07\x02\x21\x2C\x01\x00\x00\x00\x00\x00\x00\x00\x00\x00\x00"),
+        0 => show::standard(
+            store,
+            out,
+            b"write line",
+            0,
+            0x81,
+            b"\x07\x02\x21\x2C\x01\x00\x00\x00\x00\x00\x00\x00\x00\x00\x00",
+        ),
         1 => show::standard(store, out, b"read line", 0, 0x80, b"\x07"),
         2 => show::standard(store, out, b"save wrong", 0, 0x82, b"\x82"),
         3 => show::standard(store, out, b"save", 0, 0x82, b"\x02"),
@@ -41,7 +62,14 @@ fn saves(k: u8, store: &mut [u8], out: &mut [u8]) {
 // A new VALID-TIME counts only after a reset.
 fn valid_time(k: u8, store: &mut [u8], out: &mut [u8]) {
     match k {
-        0 => show::standard(store, out, b"write valid", 0, 0x81, b"\x8C\x00\x03\x00\x00\x00\x00\x00\x00\x00\x00\x00\x00\x00\x00"),
+        0 => show::standard(
+            store,
+            out,
+            b"write valid",
+            0,
+            0x81,
+            b"\x8C\x00\x03\x00\x00\x00\x00\x00\x00\x00\x00\x00\x00\x00\x00",
+        ),
         1 => show::sighting(store, b"sight", 0, UID, 1),
         2 => show::tick(store, b"tick"),
         3 => show::tick(store, b"tick"),

@@ -156,27 +156,13 @@ pub fn ask(
 }
 
 // A line with the answer to a standard request.
-pub fn standard(
-    store: &mut [u8],
-    out: &mut [u8],
-    name: &[u8],
-    desk: u8,
-    control: u8,
-    data: &[u8],
-) {
+pub fn standard(store: &mut [u8], out: &mut [u8], name: &[u8], desk: u8, control: u8, data: &[u8]) {
     let a = ask(store, out, Kind::Standard, desk, control, data);
     line(name, out, a);
 }
 
 // A line with the answer to an advanced request.
-pub fn advanced(
-    store: &mut [u8],
-    out: &mut [u8],
-    name: &[u8],
-    desk: u8,
-    control: u8,
-    data: &[u8],
-) {
+pub fn advanced(store: &mut [u8], out: &mut [u8], name: &[u8], desk: u8, control: u8, data: &[u8]) {
     let a = ask(store, out, Kind::Advanced, desk, control, data);
     line(name, out, a);
 }

@@ -1,13 +1,10 @@
+-- `show::sight_many` is safe and ends: the count is at most the tags sighted, and the store keeps its length. Assumes nothing.
 use borrow.Author.Needs.{needs}
 use mathlib.Core.Path.{_≡_}
 use Prim.Native.Nat.{_≤_, _-_}
 use lib.ListN.{length}
 use Rattle.show.proofs.sight_many.Statement.{statement}
 use Rattle.show.proofs.sight_many.Tie as tie
-use Rattle.show.proofs.sight_many.Reads as reads
-use Rattle.show.proofs.sight_many.Lts as lts
-use Rattle.depot.proofs.sighting.Reads as sighting-reads
-use Rattle.show.proofs.recorded.Reads as recorded-reads
 
 abbrev Inv-loop : tie.InvT-loop
 Inv-loop store₀ desk n first count₀ i₀ store count i = (i ≤ n) × (count ≤ i) × (length store ≡ length store₀)
@@ -15,51 +12,39 @@ Inv-loop store₀ desk n first count₀ i₀ store count i = (i ≤ n) × (count
 abbrev μ-loop : tie.MeasureT-loop
 μ-loop store₀ desk n first count₀ i₀ store count i = n - i
 
--- src/lib.rt:221:17
 mul-first : tie.Need-mul-first Inv-loop μ-loop
 mul-first c = search needs
 
--- src/lib.rt:224:5
 loop-holds : tie.Need-loop-holds Inv-loop μ-loop
 loop-holds c = search needs
 
--- src/lib.rt:225:71
 cast-sighting : tie.Need-cast-sighting Inv-loop μ-loop
 cast-sighting c = search needs
 
--- src/lib.rt:225:63
 add-sighting : tie.Need-add-sighting Inv-loop μ-loop
 add-sighting c = search needs
 
--- src/lib.rt:225:27
 sighting-requires : tie.Need-sighting-requires Inv-loop μ-loop
 sighting-requires c κs = search needs
 
--- src/lib.rt:225:18
 recorded-requires : tie.Need-recorded-requires Inv-loop μ-loop
 recorded-requires c κs = search needs
 
--- src/lib.rt:225:9
 add-count : tie.Need-add-count Inv-loop μ-loop
 add-count c = search needs
 
--- src/lib.rt:226:9
 add-i : tie.Need-add-i Inv-loop μ-loop
 add-i c = search needs
 
--- src/lib.rt:224:5
 loop-less : tie.Need-loop-less Inv-loop μ-loop
 loop-less c = search needs
 
--- src/lib.rt:224:5
 loop-again : tie.Need-loop-again Inv-loop μ-loop
 loop-again c = search needs
 
--- src/lib.rt:220:1
 same-length : tie.Need-same-length Inv-loop μ-loop
 same-length c = search needs
 
--- src/lib.rt:220:1
 returns : tie.Need-returns Inv-loop μ-loop
 returns c = search needs
 
