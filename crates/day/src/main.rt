@@ -1,5 +1,5 @@
 // A day of the box: two desks, 0 and 3, in one store. A line a step: a word, and what the box answers.
-const UID: u64 = 0xE007000001645E37;
+use show::UID;
 
 // Sightings up to 64 records, and one more.
 fn full(k: u8, store: &mut [u8], out: &mut [u8]) {

@@ -1,5 +1,5 @@
 // The first half of the program `day`: logins, blocks, VALID-TIME, the end of a lock.
-const UID: u64 = 0xE007000001645E37;
+use show::UID;
 
 // A fresh store, a login, and a block in either memory.
 pub fn blocks(k: u8, store: &mut [u8], out: &mut [u8]) {

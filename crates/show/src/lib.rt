@@ -1,10 +1,15 @@
 // What the programs over the box share: asking it by a frame, and printing what it answers as the listing does.
 use depot::Answer;
+use frame::Advanced;
 use frame::Kind;
 use frame::Sealed;
+use frame::Standard;
 use libc::STDOUT_FILENO;
 use rules::Seen;
 ghost use Prim.Native.Nat.{_≤_, _<_};
+
+// The tag of the paper's own example.
+pub const UID: u64 = 0xE007000001645E37;
 
 // ---- octets
 
@@ -119,8 +124,8 @@ pub fn line(name: &[u8], out: &[u8], a: Answer) {
 // Where the data of a request begin.
 fn data_at(kind: Kind) -> usize {
     match kind {
-        Kind::Standard => 3,
-        Kind::Advanced => 5,
+        Kind::Standard => Standard::LEAD + 2,
+        Kind::Advanced => Advanced::LEAD + 2,
     }
 }
 
