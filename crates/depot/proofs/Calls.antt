@@ -29,7 +29,7 @@ use Rattle.desk.specs.Obeyed.{kept, Obeyed, Sighted as DeskSighted, Ticked}
 use Rattle.desk.proofs.Doing.{kept-legal}
 use Rattle.rules.specs.declared.Seen.{Seen}
 use Rattle.depot.specs.declared.Answer.the-variants.{Refused, Reply as Replied, Sighted, Done}
-use Rattle.depot.proofs.Refused.{accepted}
+use Rattle.rules.proofs.Refusals.{accepted}
 use Rattle.depot.proofs.Replying.{reply-size, reply-octets}
 use Rattle.depot.specs.Called.{stepOn, Called}
 

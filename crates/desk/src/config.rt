@@ -3,6 +3,11 @@ use crate::Reply;
 use crate::data_at;
 use crate::plain;
 use frame::Kind;
+use rules::adr::all_blocks;
+use rules::adr::block_of;
+use rules::adr::in_eeprom;
+use rules::adr::names_one;
+use rules::adr::names_some;
 ghost use mathlib.Core.Path.{_≡_};
 ghost use mathlib.Core.Bool.{true, cond, not, _&&_};
 ghost use Prim.Native.Nat.{_+_, _≤_, _<_};
@@ -10,47 +15,10 @@ ghost use lib.ListN.{length, drop};
 ghost use lib.Dec.{eqb};
 ghost use Rattle.octets.specs.Parts.{put};
 ghost use Rattle.rules.specs.declared.Command.{Command};
-ghost use Rattle.rules.specs.Config.{blockAt, inEeprom, allBlocks, blockOf, namesOne, namesSome, lineLegal};
+ghost use Rattle.rules.specs.Config.{blockAt, lineLegal};
 ghost use Rattle.rules.specs.Desk.{memoryOf};
 ghost use Rattle.store.specs.Sound.{sound};
 ghost use Rattle.desk.specs.Obeyed.{kept, ruled, Quiet, Obeyed};
-
-// CFG-ADR: bit 7 names EEPROM, bit 6 all blocks, bits 5 to 0 the block.
-fn in_eeprom(adr: u8) -> bool
-    ensures { λ r. ⌜ r ≡ inEeprom adr ⌝ }
-{
-    adr / 128 % 2 == 1
-}
-
-fn all_blocks(adr: u8) -> bool
-    ensures { λ r. ⌜ r ≡ allBlocks adr ⌝ }
-{
-    adr / 64 % 2 == 1
-}
-
-fn block_of(adr: u8) -> usize
-    ensures { λ r. ⌜ (r ≡ blockOf adr) × (r < 64) ⌝ }
-{
-    adr as usize % 64
-}
-
-fn names_one(adr: u8) -> bool
-    ensures { λ r. ⌜ r ≡ namesOne adr ⌝ }
-{
-    if all_blocks(adr) {
-        return false;
-    }
-    block_of(adr) < 16
-}
-
-fn names_some(adr: u8) -> bool
-    ensures { λ r. ⌜ r ≡ namesSome adr ⌝ }
-{
-    if all_blocks(adr) {
-        return block_of(adr) == 0;
-    }
-    block_of(adr) < 16
-}
 
 // The named block, as a part of the memory that LOC names.
 pub fn block<'a>(ram: &'a [u8], eeprom: &'a [u8], loc: bool, k: usize) -> &'a [u8]

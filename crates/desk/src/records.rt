@@ -3,6 +3,7 @@ use crate::Reply;
 use crate::data_at;
 use crate::plain;
 use frame::Kind;
+use rules::most_sent;
 ghost use mathlib.Core.Path.{_≡_};
 ghost use mathlib.Core.Bool.{true, Bool, cond};
 ghost use Prim.Native.Nat.{_+_, _*_, _≤_, _<_, min};
@@ -11,7 +12,7 @@ ghost use lib.Dec.{eqb, ltb};
 ghost use Rattle.octets.specs.Parts.{put};
 ghost use Rattle.table.specs.Entries.{recordsOf};
 ghost use Rattle.rules.specs.declared.Command.{Command};
-ghost use Rattle.rules.specs.Records.{mostSent, counted};
+ghost use Rattle.rules.specs.Records.{counted};
 ghost use Rattle.store.specs.View.{inUse};
 ghost use Rattle.store.specs.Sound.{sound};
 ghost use Rattle.desk.specs.Obeyed.{kept, ruled, Quiet, Obeyed};
@@ -36,13 +37,6 @@ fn remove_first(s: &mut [u8], d: usize, k: usize)
     let n = store::used(s);
     let left = table::remove(&mut s[at..at + store::TABLE], n, d as u8, k);
     octets::put16(s, 4, left as u16);
-}
-
-// How many records fit in a reply.
-fn most_sent(kind: Kind) -> usize
-    ensures { λ r. ⌜ (r ≡ mostSent kind) × (r ≤ 64) ⌝ }
-{
-    (kind.longest() - kind.overhead() - 3) / table::RECORD
 }
 
 fn least(a: usize, b: usize) -> usize

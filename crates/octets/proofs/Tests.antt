@@ -1,5 +1,5 @@
 -- What a test of several parts tells of each, and what the first of tests in order tells of those before it. Assumes nothing.
-use mathlib.Core.Path.{_≡_, refl, sym, _∙_}
+use mathlib.Core.Path.{_≡_, refl, sym, ap, _∙_}
 use mathlib.Core.Bool.{Bool, true, false, cond, _&&_, _||_, not, false≢true, true≢false}
 use mathlib.Core.List.{List, [], _∷_, _++_}
 use mathlib.Core.Option.{none, some}
@@ -74,4 +74,19 @@ module _ {A : Type 0} where
       go : (b : Bool) → cond b (some (t .0)) (first (ts ++ us)) ≡ none → (first (ts ++ us) ≡ none → noneGiven (first ts) ≡ true)
           → noneGiven (cond b (some (t .0)) (first ts)) ≡ true
       go true q f = cc
+      go false q f = f q
+
+  pub first-none : (ts us : List (A × Bool)) → first ts ≡ none → first (ts ++ us) ≡ first us
+  unfolding noneGiven
+  first-none ts us e = first-append ts us (ap noneGiven e)
+
+  -- one of them was given
+  pub first-given : (x : A) (ts us : List (A × Bool)) → first ts ≡ some x → first (ts ++ us) ≡ some x
+  unfolding first
+  first-given x [] us e = cc
+  first-given x (t ∷ ts) us e = go (t .1) e (first-given x ts us)
+    where
+      go : (b : Bool) → cond b (some (t .0)) (first ts) ≡ some x → (first ts ≡ some x → first (ts ++ us) ≡ some x)
+          → cond b (some (t .0)) (first (ts ++ us)) ≡ some x
+      go true q f = q
       go false q f = f q

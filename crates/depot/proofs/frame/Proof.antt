@@ -4,7 +4,7 @@ use mathlib.Core.Bool.{true}
 use lib.ListN.{length}
 use Rattle.octets.proofs.Tests.{passed, failed}
 use Rattle.store.specs.Sound.{sound}
-use Rattle.depot.proofs.Refused.{small-buffer, judge-refused}
+use Rattle.rules.proofs.Refusals.{small-buffer, judge-refused}
 use Rattle.depot.proofs.Calls.{unsound, frame-refused}
 use borrow.Author.Needs.{needs}
 use Rattle.depot.proofs.frame.Statement.{statement}

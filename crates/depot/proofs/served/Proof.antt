@@ -9,7 +9,7 @@ use Rattle.frame.specs.declared.Way.the-variants.{Request}
 use Rattle.frame.specs.declared.Frame.{Frame}
 use Rattle.frame.specs.Judged.{dataOf}
 use Rattle.frame.proofs.Verdict.{sound-fits}
-use Rattle.depot.proofs.Refused.{no-desk}
+use Rattle.rules.proofs.Refusals.{no-desk}
 use Rattle.depot.proofs.Calls.{frame-refused, frame-replied, frame-sealed}
 use borrow.Author.Needs.{needs}
 use Rattle.depot.proofs.served.Statement.{statement}

@@ -4,7 +4,7 @@ use mathlib.Core.Bool.{true}
 use native.Mathlib.Omega.{arith}
 use Rattle.octets.proofs.Tests.{passed, failed}
 use Rattle.store.specs.Sound.{sound}
-use Rattle.depot.proofs.Refused.{sighting-desk, sighting-mask, sighting-accepted}
+use Rattle.rules.proofs.Refusals.{sighting-desk, sighting-mask, sighting-accepted}
 use Rattle.depot.proofs.Calls.{unsound, sighting-refused, sighting-answered}
 use borrow.Author.Needs.{needs}
 use Rattle.depot.proofs.sighting.Statement.{statement}

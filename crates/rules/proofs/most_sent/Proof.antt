@@ -1,4 +1,4 @@
--- `desk::records::most_sent` meets its contract: by the numbers of each kind. Assumes nothing.
+-- `rules::most_sent` meets its contract: by the numbers of each kind. Assumes nothing.
 use Prim.Native.Nat.{_-_, _/_, _≤_}
 use mathlib.Core.Path.{_≡_, refl}
 use lib.Dec.{lit≤}
@@ -7,9 +7,9 @@ use Rattle.frame.specs.declared.Kind.{Kind}
 use Rattle.frame.specs.declared.Kind.the-variants.{Standard, Advanced}
 use Rattle.frame.specs.declared.Way.the-variants.{Request}
 use Rattle.frame.specs.Shape.{shapeOf, overhead}
 use Rattle.rules.specs.Records.{mostSent}
-use Rattle.desk.proofs.records.most_sent.Statement.{statement}
-use Rattle.desk.proofs.records.most_sent.Tie as tie
+use Rattle.rules.proofs.most_sent.Statement.{statement}
+use Rattle.rules.proofs.most_sent.Tie as tie
 
 -- what a reply has beside its records
 record Room (kind : Kind) : Type 0 where

@@ -1,9 +1,9 @@
--- `desk::config::names_one` meets its contract. Assumes nothing.
+-- `rules::adr::names_one` meets its contract. Assumes nothing.
 use mathlib.Core.Path.{sym, _∙_}
 use Rattle.rules.specs.Config.{namesOne, exists}
 use borrow.Author.Needs.{needs}
-use Rattle.desk.proofs.config.names_one.Statement.{statement}
-use Rattle.desk.proofs.config.names_one.Tie as tie
+use Rattle.rules.proofs.adr.names_one.Statement.{statement}
+use Rattle.rules.proofs.adr.names_one.Tie as tie
 
 all-blocks-requires : tie.Need-all-blocks-requires
 all-blocks-requires c κs = search needs

@@ -1,9 +1,9 @@
--- `desk::config::names_some` meets its contract. Assumes nothing.
+-- `rules::adr::names_some` meets its contract. Assumes nothing.
 use mathlib.Core.Path.{sym, _∙_}
 use Rattle.rules.specs.Config.{namesSome, exists}
 use borrow.Author.Needs.{needs}
-use Rattle.desk.proofs.config.names_some.Statement.{statement}
-use Rattle.desk.proofs.config.names_some.Tie as tie
+use Rattle.rules.proofs.adr.names_some.Statement.{statement}
+use Rattle.rules.proofs.adr.names_some.Tie as tie
 
 all-blocks-requires : tie.Need-all-blocks-requires
 all-blocks-requires c κs = search needs

@@ -1,0 +1,4 @@
+pub mod Asked
+pub mod Denied
+pub mod BoxReads
+pub mod Apart

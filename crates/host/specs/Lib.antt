@@ -1,0 +1,5 @@
+pub mod Request
+pub mod Maker
+pub mod Possible
+pub mod Reader
+pub mod Typed

@@ -1,0 +1,31 @@
+-- Scan lines in a lent output: when they are refused, and what is written. Assumes nothing.
+use Prim.Native.Nat.{ℕ, _-_, _/_}
+use mathlib.Core.Bool.{Bool, not}
+use mathlib.Core.List.{List, [], _∷_, map}
+use lib.ListN.{length, drop}
+use lib.Dec.{ltb}
+use Rattle.octets.specs.Tests.{first}
+use Rattle.octets.specs.Parts.{rows, concat}
+use Rattle.frame.specs.declared.Refusal.{Refusal}
+use Rattle.frame.specs.declared.Refusal.the-variants.{OutOfRange, NoRoom}
+use Rattle.table.specs.Entries.{recordWidth}
+use Rattle.rules.specs.declared.Written.{Written}
+use Rattle.rules.specs.Config.{lineLegal}
+use Rattle.rules.specs.Output.{Wrote}
+use Rattle.rules.specs.Line.{line}
+
+-- the line writer can meet 6, 7, in rising number: block 7 breaks the rules; the text has no room
+unfoldable pub lineRefusals : List ℕ → List ℕ → ℕ → List (Refusal × Bool)
+lineRefusals block text room = (OutOfRange, not (lineLegal block)) ∷ (NoRoom, ltb room (length text)) ∷ []
+
+-- refused and nothing written; or the text at the start of the output, and the octets after it stay
+abbrev pub Lined : List ℕ → List ℕ → List ℕ → Written → List ℕ → Type 0
+Lined block text out a out′ = Wrote (first (lineRefusals block text (length out))) text out a out′
+
+-- the records that the data of a 0x22 reply carry, behind their count
+unfoldable pub recordsIn : List ℕ → List (List ℕ)
+recordsIn sent = rows ((length sent - 2) / recordWidth) recordWidth (drop 2 sent)
+
+-- a line for each, one after the other
+unfoldable pub linesOf : List ℕ → List ℕ → List ℕ
+linesOf block sent = concat (map (line block) (recordsIn sent))
