@@ -1,15 +1,15 @@
 -- Two different requests never give the same octets. Assumes nothing.
 use Prim.Native.Nat.{ℕ}
 use mathlib.Core.Path.{_≡_, refl, sym, ap, _∙_}
-use mathlib.Core.Bool.{true}
+use mathlib.Core.Bool.{true, _&&_}
 use mathlib.Core.List.{List}
 use lib.ListN.{getD}
+use lib.Dec.{ltb}
 use Rattle.octets.specs.Numbers.{number, octets, u16At}
 use Rattle.octets.specs.Parts.{part}
 use Rattle.octets.proofs.Numbers.{number-octets}
-use Rattle.octets.proofs.Tests.{and-left, and-right}
+use Rattle.octets.proofs.Tests.{and-right}
 use borrow.Author.Tests.{ltb-true}
-use Rattle.frame.specs.declared.Kind.{Kind}
 use Rattle.frame.proofs.Injective.{frame-injective}
 use Rattle.rules.specs.declared.Command.{Command}
 use Rattle.rules.specs.declared.Command.the-variants as command
@@ -48,7 +48,7 @@ ask-back (ReadBlock adr) bytes e = refl
 ask-back (WriteBlock adr) bytes e = refl
 ask-back (SaveBlocks adr) bytes e = refl
 ask-back (RestoreBlocks adr) bytes e = refl
-ask-back (SetTimer h m ms) bytes e = ap (SetTimer h m) (number-octets 2 ms (ltb-true _ _ (and-right _ _ (and-right _ _ e))))
+ask-back (SetTimer h m ms) bytes e = ap (SetTimer h m) (number-octets 2 ms (ltb-true _ _ (and-right (ltb h 256 && ltb m 256) (ltb ms 65536) e)))
 ask-back SendTimer bytes e = refl
 ask-back (Login password) bytes e = ap Login (number-octets 4 password (ltb-true _ _ e))
 ask-back (ReadRecords k) bytes e = ap ReadRecords (number-octets 2 k (ltb-true _ _ e))

@@ -1,24 +1,23 @@
 -- Which requests a logged-in desk answers 0x11: the same at every desk, and by the request's values alone. Assumes nothing.
-use Prim.Native.Nat.{ℕ}
+use Prim.Native.Nat.{ℕ, min}
 use mathlib.Core.Path.{_≡_, refl, sym, ap, _∙_}
 use mathlib.Core.Bool.{Bool, true, false, cond, not, _&&_, _||_}
 use mathlib.Core.List.{List}
-use mathlib.Core.Option.{Option, none, some}
+use mathlib.Core.Option.{none, some}
 use lib.ListN.{length}
 use lib.Dec.{eqb, ltb}
 use Rattle.octets.specs.Tests.{first}
 use Rattle.octets.specs.Numbers.{octets, u16At}
-use Rattle.timer.specs.declared.Timer.{Timer}
 use Rattle.timer.specs.Clock.{timerLegal, timerFrom}
 use Rattle.frame.specs.declared.Kind.{Kind}
 use Rattle.rules.specs.Config.{inEeprom, blockOf, namesOne, namesSome, lineLegal}
 use Rattle.rules.specs.Desk.{Desk, withLogin}
 use Rattle.rules.specs.Command.{ownTests, Result, result, done, effect, unless, passwordIs}
-use Rattle.rules.specs.Records.{readStatus}
+use Rattle.rules.specs.Records.{goes, readStatus}
 use Rattle.host.specs.declared.Ask.{Ask}
 use Rattle.host.specs.declared.Ask.the-variants.{Baud, Reset, SystemReset, ReadBlock, WriteBlock, SaveBlocks, RestoreBlocks, SetTimer, SendTimer, Login, ReadRecords, SendTable, RemoveRecords, ClearRecords}
 use Rattle.host.specs.declared.Request.{Request}
-use Rattle.host.specs.Request.{bodyOf, dataFor, openDesk, denied}
+use Rattle.host.specs.Request.{bodyOf, openDesk, denied}
 use Rattle.host.specs.Possible.{needsLogin}
 use Rattle.host.proofs.Asked.{answerTo, ownAnswer, asked-open}
 
@@ -64,6 +63,11 @@ cond-not : (b : Bool) (x y : ℕ) → eqb x 0x11 ≡ false → eqb y 0x11 ≡ fa
 cond-not true x y p q = p
 cond-not false x y p q = q
 
+read-not : (a b : Bool) → eqb (cond a 0x93 (cond b 0x94 0x00)) 0x11 ≡ false
+read-not true b = refl
+read-not false true = refl
+read-not false false = refl
+
 module _ (kind : Kind) (bytes : List ℕ) (d : Desk) where
   own-11 : (desk : ℕ) (a : Ask) → is11 (ownAnswer (record { kind = kind; desk = desk; ask = a; bytes = bytes }) d) ≡ unfit a bytes
   unfolding ownTests first effect done is11 result readStatus unless
@@ -79,7 +83,7 @@ module _ (kind : Kind) (bytes : List ℕ) (d : Desk) where
   own-11 desk (Login password) = cond-not (passwordIs (octets 4 password) d) 0x00 0x14 refl refl
   own-11 desk (ReadRecords k) =
       other-test (eqb (u16At 0 (octets 2 k)) 0) (eqb (length (d .table .held)) 0) 0x92 d _ refl
-      (cond-not (d .table .overflow) 0x93 _ refl (cond-not _ 0x94 0x00 refl refl))
+      (read-not (d .table .overflow) (ltb (goes kind (u16At 0 (octets 2 k)) (d .table)) (min (u16At 0 (octets 2 k)) (length (d .table .held)))))
   own-11 desk SendTable = refl
   own-11 desk RemoveRecords = refl
   own-11 desk ClearRecords = refl
@@ -101,3 +105,7 @@ denied-is q size = denied-at q openDesk size refl
 -- so what one of them answers 0x11, all of them do
 pub denied-everywhere : (q : Request) (d : Desk) → length (q .bytes) ≡ 14 → d .loggedIn ≡ true → eqb (answerTo q d .status) 0x11 ≡ denied q
 denied-everywhere q d size e = denied-at q d size e ∙ sym (denied-is q size)
+
+-- what is asked is known
+pub denied-as : (q : Request) (a : Ask) → length (q .bytes) ≡ 14 → q .ask ≡ a → unfit a (q .bytes) ≡ denied q
+denied-as q a size e = ap (λ (x : Ask). unfit x (q .bytes)) (sym e) ∙ sym (denied-is q size)

@@ -1,4 +1,15 @@
 pub mod Asked
+pub mod Values
 pub mod Denied
+pub mod Chances
 pub mod BoxReads
 pub mod Apart
+pub mod Making
+pub mod Judging
+pub mod Telling
+pub mod Counts
+pub mod Answers
+pub mod Witness
+pub mod Given
+pub mod ReadBack
+pub mod TypedBack

@@ -15,8 +15,6 @@ use Rattle.frame.specs.declared.Refusal.{Refusal}
 use Rattle.frame.specs.declared.Refusal.the-variants.{NotTheReply}
 use Rattle.frame.specs.Judged.{faults, partsOf, dataOf}
 use Rattle.table.specs.Entries.{recordWidth}
-use Rattle.host.specs.declared.Ask.{Ask}
-use Rattle.host.specs.declared.Ask.the-variants.{Baud, Reset, SystemReset, ReadBlock, WriteBlock, SaveBlocks, RestoreBlocks, SetTimer, SendTimer, Login, ReadRecords, SendTable, RemoveRecords, ClearRecords}
 use Rattle.host.specs.declared.Request.{Request}
 use Rattle.host.specs.declared.Told.{Told}
 use Rattle.host.specs.declared.Read.{Read}

@@ -6,10 +6,10 @@ ghost use Prim.Native.Nat.{_≤_};
 ghost use lib.ListN.{length};
 ghost use Rattle.host.specs.Request.{controlOf, bodyOf};
 
-pub mod make;
+pub mod maker;
 pub mod possible;
 pub mod range;
-pub mod read;
+pub mod reader;
 pub mod typed;
 
 // What is asked, in the paper's order. A number is wider than its field.

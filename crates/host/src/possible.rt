@@ -7,7 +7,7 @@ use frame::Kind;
 use rules::adr::block_of;
 use rules::most_sent;
 ghost use mathlib.Core.Path.{_≡_};
-ghost use mathlib.Core.Bool.{true, cond, _||_};
+ghost use mathlib.Core.Bool.{true, cond, _&&_, _||_};
 ghost use Prim.Native.Nat.{_<_, min};
 ghost use lib.Dec.{eqb};
 ghost use Rattle.table.specs.Entries.{share};
@@ -169,20 +169,30 @@ fn needs_login(ask: Ask) -> bool
     }
 }
 
-// 0x13 where login is needed; then 0x11, or what is allowed.
+// 0x13 where login is needed.
+fn is_barred(ask: Ask, status: u8, len: usize) -> bool
+    ensures { λ r. ⌜ r ≡ (needsLogin ask && plain 0x13 status len) ⌝ }
+{
+    if !needs_login(ask) {
+        return false;
+    }
+    is_plain(0x13, status, len)
+}
+
+// That; then 0x11, or what is allowed.
 fn may_answer(q: Request, status: u8, len: usize) -> bool
     requires { ⌜ fieldsHold (q .ask) ≡ true ⌝ }
     ensures { λ r. ⌜ r ≡ mayAnswer q status len ⌝ }
 {
-    if needs_login(q.ask) {
-        if is_plain(0x13, status, len) {
-            return true;
-        }
+    let kind = q.kind;
+    let ask = q.ask;
+    if is_barred(ask, status, len) {
+        return true;
     }
     if is_denied(q) {
         return is_plain(0x11, status, len);
     }
-    is_allowed(q.kind, q.ask, status, len)
+    is_allowed(kind, ask, status, len)
 }
 
 // Whether some sound store makes the box answer the request so.
@@ -192,7 +202,8 @@ pub fn is_possible(q: Request, status: u8, len: usize) -> bool
     if q.desk > 7 {
         return false;
     }
-    if !fields_hold(q.ask) {
+    let ask = q.ask;
+    if !fields_hold(ask) {
         return false;
     }
     may_answer(q, status, len)

@@ -76,12 +76,13 @@ pub fn is_denied(q: Request) -> bool
     ensures { λ r. ⌜ r ≡ denied q ⌝ }
 {
     let ask = q.ask;
+    let bytes = q.bytes;
     match ask {
         Ask::Baud(n) => n != 0,
         Ask::Reset => false,
         Ask::SystemReset => false,
         Ask::ReadBlock(adr) => !names_one(adr as u8),
-        Ask::WriteBlock(adr) => write_denied(adr as u8, q.bytes),
+        Ask::WriteBlock(adr) => write_denied(adr as u8, bytes),
         Ask::SaveBlocks(adr) => save_denied(adr as u8),
         Ask::RestoreBlocks(adr) => !names_some(adr as u8),
         Ask::SetTimer(h, m, ms) => {
@@ -104,7 +105,8 @@ pub fn is_denied(q: Request) -> bool
 pub fn in_range(q: Request) -> bool
     ensures { λ r. ⌜ r ≡ inRange q ⌝ }
 {
-    if !fields_hold(q.ask) {
+    let ask = q.ask;
+    if !fields_hold(ask) {
         return false;
     }
     !is_denied(q)

@@ -8,17 +8,12 @@ use Rattle.octets.specs.Parts.{part}
 use Rattle.frame.specs.declared.Way.the-variants.{Request}
 use Rattle.frame.specs.declared.Frame.{Frame}
 use Rattle.frame.specs.Judged.{dataOf}
-use Rattle.frame.proofs.Verdict.{sound-fits}
+use Rattle.frame.proofs.Verdict.{sound-fits, data-lent}
 use Rattle.rules.proofs.Refusals.{no-desk}
 use Rattle.depot.proofs.Calls.{frame-refused, frame-replied, frame-sealed}
 use borrow.Author.Needs.{needs}
 use Rattle.depot.proofs.served.Statement.{statement}
 use Rattle.depot.proofs.served.Tie as tie
-
--- the data that are lent to the desk
-same-body : (p : Frame) (f : List ℕ) → take (p .start + p .len - p .start) (drop (p .start) f) ≡ dataOf p f
-unfolding dataOf part
-same-body p f = let n : p .start + p .len - p .start ≡ p .len = omega arith in rw n
 
 returns : tie.Need-returns
 returns c =
@@ -72,7 +67,7 @@ returns-2 c =
     let z = k .before in
     let a = z .args in
     frame-replied (a .frame .now) (a .store .now) (v .serve .last .0) (a .out .now) _ _ (a .f) (v .serve .result) (z .pre .0) (λ i. k .slice-known .given i .fits) (z .pre .1) (z .pre .2) (v .before .before .before .before .before .if1 .left)
-    (same-body (a .f) (a .frame .now)) (v .serve .ensures) (c .before .n .given .0 .0) _ (sym (x .seal-reply .ensures .0) ∙ c .before .n .given .1) (x .seal-reply .ensures .1)
+    (data-lent (a .f) (a .frame .now)) (v .serve .ensures) (c .before .n .given .0 .0) _ (sym (x .seal-reply .ensures .0) ∙ c .before .n .given .1) (x .seal-reply .ensures .1)
 
 same-length-3 : tie.Need-same-length-3
 same-length-3 c = search needs
@@ -88,7 +83,7 @@ returns-3 c =
     let z = k .before in
     let a = z .args in
     absurd (frame-sealed (a .frame .now) (a .store .now) (v .serve .last .0) (a .out .now) _ _ (a .f) (v .serve .result) (z .pre .0) (λ i. k .slice-known .given i .fits) (z .pre .1) (z .pre .2) (v .before .before .before .before .before .if1 .left)
-    (same-body (a .f) (a .frame .now)) (v .serve .ensures) (sym (x .seal-reply .ensures .0) ∙ c .enum-told .given .1))
+    (data-lent (a .f) (a .frame .now)) (v .serve .ensures) (sym (x .seal-reply .ensures .0) ∙ c .enum-told .given .1))
 
 pub served-spec : {M : Type 1} → statement M
 served-spec =

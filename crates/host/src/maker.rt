@@ -69,15 +69,25 @@ fn put_timer(out: &mut [u8], h: u64, m: u64, ms: u64)
     octets::put16(out, 2, ms as u16);
 }
 
+// The four octets of a password, most significant first.
+fn octets32(n: u64) -> [u8; 4]
+    ensures { λ r. ⌜ r ≡ octets 4 n ⌝ }
+{
+    [
+        (n / 16777216 % 256) as u8,
+        (n / 65536 % 256) as u8,
+        (n / 256 % 256) as u8,
+        (n % 256) as u8,
+    ]
+}
+
 // Writes a password.
 fn put_password(out: &mut [u8], n: u64)
     requires { ⌜ 4 ≤ length (now out) ⌝ }
     ensures { λ _. ⌜ now (out .exit) ≡ put 0 (octets 4 n) (now (out .entry)) ⌝ }
 {
-    out[0] = (n / 16777216 % 256) as u8;
-    out[1] = (n / 65536 % 256) as u8;
-    out[2] = (n / 256 % 256) as u8;
-    out[3] = (n % 256) as u8;
+    let d = octets32(n);
+    octets::copy_to(out, 0, &d);
 }
 
 // Writes the data of a request.
@@ -109,9 +119,11 @@ fn put_frame(q: Request, out: &mut [u8], len: usize) -> Written
     ensures { λ r. ⌜ Made q (now (out .entry)) r (now (out .exit)) ⌝ }
 {
     let kind = q.kind;
+    let ask = q.ask;
+    let bytes = q.bytes;
     let at = kind.shape().lead + 2;
-    put_data(&mut out[at..], q.ask, q.bytes);
-    match frame::seal_request(out, kind, q.desk as u8, control_of(q.ask), len) {
+    put_data(&mut out[at..], ask, bytes);
+    match frame::seal_request(out, kind, q.desk as u8, control_of(ask), len) {
         Sealed::Octets(n) => Written::Octets(n),
         Sealed::Not => Written::Refused(Refusal::NoRoom),
     }
@@ -127,8 +139,11 @@ pub fn make(q: Request, out: &mut [u8]) -> Written
     if !in_range(q) {
         return Written::Refused(Refusal::OutOfRange);
     }
-    let len = size_of(q.ask, q.bytes);
-    if !frame::has_room(Way::Request, q.kind, len, out.len()) {
+    let kind = q.kind;
+    let ask = q.ask;
+    let bytes = q.bytes;
+    let len = size_of(ask, bytes);
+    if !frame::has_room(Way::Request, kind, len, out.len()) {
         return Written::Refused(Refusal::NoRoom);
     }
     put_frame(q, out, len)

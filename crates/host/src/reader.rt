@@ -64,13 +64,16 @@ fn answers(q: Request, f: Frame, t: Told, reply: &[u8]) -> bool
     requires { ⌜ (judged Way.Reply (now reply) ≡ Judged.Sound f) × (t ≡ toldOf f (now reply)) ⌝ }
     ensures { λ r. ⌜ r ≡ answersTo q f (now (reply .entry)) ⌝ }
 {
-    if !same_kind(f.kind, q.kind) {
+    let kind = f.kind;
+    let wanted = q.kind;
+    if !same_kind(kind, wanted) {
         return false;
     }
     if f.address as u64 != q.desk {
         return false;
     }
-    if f.control != control_of(q.ask) {
+    let ask = q.ask;
+    if f.control != control_of(ask) {
         return false;
     }
     if !is_possible(q, t.status, f.len) {
