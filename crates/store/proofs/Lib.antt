@@ -7,6 +7,7 @@ pub mod LegalView
 pub mod Fields
 pub mod Blocks
 pub mod FreshRows
+pub mod Laid
 pub mod FreshBox
 pub mod FieldOctets
 pub mod LentAreas
