@@ -9,5 +9,6 @@ pub mod Blocks
 pub mod FreshRows
 pub mod Laid
 pub mod FreshBox
+pub mod DeskRows
 pub mod FieldOctets
 pub mod LentAreas
