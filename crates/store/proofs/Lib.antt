@@ -10,5 +10,6 @@ pub mod FreshRows
 pub mod Laid
 pub mod FreshBox
 pub mod DeskRows
+pub mod EveryBox
 pub mod FieldOctets
 pub mod LentAreas
