@@ -14,7 +14,7 @@ use Rattle.octets.proofs.Each.{All, Octet, octets-put, octets-number, all-appen
 use Rattle.octets.proofs.Puts.{put-length}
 use Rattle.octets.proofs.Joins.{part-middle}
 use Rattle.octets.proofs.Numbers.{octets-length, number-octets}
-use Rattle.timer.specs.Clock.{timerOctets, timerFrom}
+use Rattle.timer.specs.Clock.{timerOctets}
 use Rattle.timer.proofs.Ranges.{timer-facts}
 use Rattle.timer.proofs.ReadBack.{timer-length, timer-octets, timer-back}
 use Rattle.locks.specs.declared.Lock.{Lock}
@@ -23,7 +23,7 @@ use Rattle.locks.proofs.Stored.{locks-put}
 use Rattle.rules.specs.Desk.{Desk}
 use Rattle.rules.proofs.Facts.{DeskLegal}
 use Rattle.store.specs.Layout.{rowWidth}
-use Rattle.store.specs.Rows.{field, fields}
+use Rattle.store.specs.Rows.{fieldSize, field, fields}
 use Rattle.store.specs.View.{deskOf, deskIn}
 use Rattle.store.specs.Sound.{rowSound}
 use Rattle.store.proofs.Fields.{field-at}
@@ -59,7 +59,7 @@ octets-concat (f ∷ fs) p = all-append Octet f (concat fs) (p .0) (octets-conca
 -- ---- fields that are as long as those of a row
 
 widths : List ℕ
-widths = 224 ∷ 224 ∷ 2 ∷ 1 ∷ 4 ∷ 1 ∷ 1 ∷ 1 ∷ 1 ∷ 640 ∷ []
+widths = map fieldSize (0 ∷ 1 ∷ 2 ∷ 3 ∷ 4 ∷ 5 ∷ 6 ∷ 7 ∷ 8 ∷ 9 ∷ [])
 
 module _ (fs : List (List ℕ)) (e : map length fs ≡ widths) where
   together-length : length (concat fs) ≡ rowWidth
@@ -113,6 +113,9 @@ padded-octets ls = octets-put 0 (locksOctets ls) (replicate 640 0) (octets-conca
 one-back : (x : ℕ) → x ≤ 255 → number (octets 1 x) ≡ x
 one-back x h = number-octets 1 x (omega arith)
 
+flag-number : (b : Bool) → number (octets 1 (flag b)) ≡ flag b
+flag-number b = one-back (flag b) (omega (arith, flag-small b))
+
 module _ (d : Desk) (p : DeskLegal d) where
   lengths : map length (fieldsOf d) ≡ widths
   unfolding fieldsOf widths
@@ -129,10 +132,34 @@ module _ (d : Desk) (p : DeskLegal d) where
   pub row-octets : All Octet (rowFor d)
   unfolding rowFor fieldsOf
   row-octets =
-      octets-concat (fieldsOf d)
-      (p .ram .octets, (p .eeprom .octets, (octets-number 2 (d .valid), (octets-number 1 (flag (d .loggedIn)), (timer-octets (d .timer) (p .timer),
-      (octets-number 1 (flag (d .table .overflow)), (octets-number 1 (d .table .due), (octets-number 1 (d .table .start), (octets-number 1 (length (d .locks)),
-      (padded-octets (d .locks), tt))))))))))
+      octets-concat (fieldsOf d) (
+        p .ram .octets,
+        (
+          p .eeprom .octets,
+          (
+            octets-number 2 (d .valid),
+            (
+              octets-number 1 (flag (d .loggedIn)),
+              (
+                timer-octets (d .timer) (p .timer),
+                (
+                  octets-number 1 (flag (d .table .overflow)),
+                  (
+                    octets-number 1 (d .table .due),
+                    (
+                      octets-number 1 (d .table .start),
+                      (
+                        octets-number 1 (length (d .locks)),
+                        (padded-octets (d .locks), tt),
+                      ),
+                    ),
+                  ),
+                ),
+              ),
+            ),
+          ),
+        ),
+      )
 
   count-back : number (octets 1 (length (d .locks))) ≡ length (d .locks)
   count-back = one-back (length (d .locks)) (omega (arith, p .locks .few))
@@ -140,9 +167,6 @@ module _ (d : Desk) (p : DeskLegal d) where
   locks-back : locksIn (length (d .locks)) (locksPadded (d .locks)) ≡ d .locks
   unfolding locksPadded
   locks-back = locks-put (d .locks) (replicate 640 0) (p .fit) (omega (arith, p .locks .few, length-replicate {A = ℕ} 640 0))
-
-  flag-number : (b : Bool) → number (octets 1 (flag b)) ≡ flag b
-  flag-number b = one-back (flag b) (omega (arith, flag-small b))
 
   fields-say : deskOf (fieldsOf d) (d .table .held) ≡ d
   unfolding deskOf fieldsOf

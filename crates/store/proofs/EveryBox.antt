@@ -2,31 +2,30 @@
 -- Assumes nothing.
 use Prim.Native.Nat.{ℕ, zero, suc, _+_, _*_, _≤_, _<_}
 use mathlib.Core.Path.{_≡_, refl, sym, ap, ap₂, _∙_}
-use mathlib.Core.Bool.{true, _&&_}
+use mathlib.Core.Bool.{true}
 use mathlib.Core.List.{List, [], _∷_, _++_, map, append-nil}
 use native.Mathlib.Nat.{add-zero, zero-add, add-suc, suc-add, mul-suc}
 use native.Mathlib.Omega.{arith}
 use lib.Dec.{lit<, ltb}
-use lib.ListN.{length, getD, replicate, length-append, length-map, length-replicate}
+use lib.ListN.{length, getD, length-append, length-map}
 use lib.Seq.{ext-getD}
 use borrow.Author.Tests.{lt-ltb}
-use Rattle.octets.specs.Parts.{concat}
 use Rattle.octets.proofs.Tests.{and-both}
 use Rattle.octets.proofs.Each.{All, Octet, all-append, all-getD, all-replicate}
 use Rattle.octets.proofs.Rows.{Wide}
 use Rattle.table.specs.Entries.{width, desks, share, entryCount, owner, recordsOf, ownersBelow, sharesKept}
 use Rattle.table.proofs.Desks.{recordsOf-own, recordsOf-other, recordsOf-append}
 use Rattle.table.proofs.Shares.{sharesKept-all}
-use Rattle.rules.specs.Desk.{Desk, freshDesk}
+use Rattle.rules.specs.Desk.{freshDesk}
 use Rattle.rules.specs.Box.{Box, deskAt}
 use Rattle.rules.specs.Legal.{boxLegal}
 use Rattle.rules.proofs.Facts.{RecordLegal, DeskLegal, BoxLegal, box-facts}
 use Rattle.rules.proofs.Legality.{fresh-desk-legal}
 use Rattle.store.specs.Layout.{storeSize, rowWidth}
-use Rattle.store.specs.View.{deskIn, boxFrom, view}
-use Rattle.store.specs.Sound.{rowSound, tableSound, deskSound, sound}
+use Rattle.store.specs.View.{boxFrom, view}
+use Rattle.store.specs.Sound.{tableSound, deskSound, sound}
 use Rattle.store.proofs.Boxes.{box-length, box-at}
-use Rattle.store.proofs.Laid.{laid, laid-octets, laid-sound, laid-says}
+use Rattle.store.proofs.Laid.{laid, laid-octets, laid-sound, laid-says, zeros, zeros-size}
 use Rattle.store.proofs.DeskRows.{octets-concat, rowFor, row-length, row-octets, row-says, row-sound}
 
 -- ---- the entries of desk k, and of the desks of a box, counted from k
@@ -128,18 +127,12 @@ row-at (d ∷ box) (suc i) l = row-at box i (omega arith)
 
 -- ---- the store
 
+-- a store of octets that is sound and says the box
 pub record Said (box : Box) : Type 0 where
   pub store : List ℕ
   pub octets : All Octet store
   pub still : sound store ≡ true
   pub says : view store ≡ box
-
-zeros : List ℕ
-zeros = replicate storeSize 0
-
-zeros-size : length zeros ≡ storeSize
-unfolding zeros
-zeros-size = length-replicate {A = ℕ} storeSize 0
 
 zeros-octets : All Octet zeros
 unfolding zeros

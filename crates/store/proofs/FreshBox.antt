@@ -19,7 +19,7 @@ use Rattle.store.specs.View.{deskOf, deskIn, boxFrom, view}
 use Rattle.store.specs.Sound.{countsRight, blocksLegal, markRight, dueRight, locksRight, rowSound, tableSound, deskSound, sound}
 use Rattle.store.specs.Fresh.{freshRow, freshHeader, freshStore}
 use Rattle.store.proofs.FreshRows.{row-length, wide-alike}
-use Rattle.store.proofs.Laid.{laidHeader, laid, laid-sound, laid-says}
+use Rattle.store.proofs.Laid.{laidHeader, laid, laid-sound, laid-says, zeros, zeros-size}
 
 -- ---- one row, and the header: computed
 
@@ -40,9 +40,6 @@ none-used = refl
 freshRows : List (List ℕ)
 freshRows = replicate desks freshRow
 
-zeros : List ℕ
-zeros = replicate storeSize 0
-
 fresh-laid : freshStore ≡ laid freshRows [] zeros
 unfolding freshStore freshRows zeros laid put concat
 fresh-laid = ap (λ (h : List ℕ). put 6 (concat (replicate desks freshRow)) (put 0 h (replicate storeSize 0))) (sym none-used)
@@ -61,10 +58,6 @@ box-alike d zero row = refl
 box-alike d (suc n) row = ap (λ (rest : Box). deskIn row [] ∷ rest) (box-alike (suc d) n row)
 
 -- ---- the store
-
-zeros-size : length zeros ≡ storeSize
-unfolding zeros
-zeros-size = length-replicate {A = ℕ} storeSize 0
 
 count : length freshRows ≡ desks
 unfolding freshRows
