@@ -131,35 +131,7 @@ module _ (d : Desk) (p : DeskLegal d) where
 
   pub row-octets : All Octet (rowFor d)
   unfolding rowFor fieldsOf
-  row-octets =
-      octets-concat (fieldsOf d) (
-        p .ram .octets,
-        (
-          p .eeprom .octets,
-          (
-            octets-number 2 (d .valid),
-            (
-              octets-number 1 (flag (d .loggedIn)),
-              (
-                timer-octets (d .timer) (p .timer),
-                (
-                  octets-number 1 (flag (d .table .overflow)),
-                  (
-                    octets-number 1 (d .table .due),
-                    (
-                      octets-number 1 (d .table .start),
-                      (
-                        octets-number 1 (length (d .locks)),
-                        (padded-octets (d .locks), tt),
-                      ),
-                    ),
-                  ),
-                ),
-              ),
-            ),
-          ),
-        ),
-      )
+  row-octets = octets-concat (fieldsOf d) (search (octets-number, padded-octets, p .ram .octets, p .eeprom .octets, timer-octets (d .timer) (p .timer)) depth 14)
 
   count-back : number (octets 1 (length (d .locks))) ≡ length (d .locks)
   count-back = one-back (length (d .locks)) (omega (arith, p .locks .few))
