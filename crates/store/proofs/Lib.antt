@@ -7,6 +7,9 @@ pub mod LegalView
 pub mod Fields
 pub mod Blocks
 pub mod FreshRows
+pub mod Laid
 pub mod FreshBox
+pub mod DeskRows
+pub mod EveryBox
 pub mod FieldOctets
 pub mod LentAreas
