@@ -1,0 +1,103 @@
+-- Host and box read each other (demand 2's last sentence), and the reader refuses exactly what no sound store makes the box answer.
+-- Assumes nothing.
+use Prim.Native.Nat.{ℕ, _+_, _≤_, _<_}
+use mathlib.Core.Path.{_≡_, refl, sym, ap, _∙_}
+use mathlib.Core.Bool.{true}
+use mathlib.Core.List.{List, _∷_}
+use native.Mathlib.Omega.{arith}
+use lib.ListN.{length, take, set, length-set}
+use lib.Seq.{take-at, getD-set-same}
+use borrow.Author.Tests.{ltb-false, not-true}
+use Rattle.octets.specs.Numbers.{Octets}
+use Rattle.octets.proofs.Tests.{and-left}
+use Rattle.octets.specs.Parts.{part, put}
+use Rattle.octets.proofs.Each.{all-set}
+use Rattle.octets.proofs.Puts.{put-front}
+use Rattle.frame.specs.declared.Kind.{Kind}
+use Rattle.frame.specs.declared.Kind.the-variants.{Standard, Advanced}
+use Rattle.frame.specs.declared.Way.the-variants.{Reply}
+use Rattle.frame.specs.Shape.{shapeOf, overhead}
+use Rattle.frame.specs.Sealed.{frameOf}
+use Rattle.frame.proofs.Seal.{length-frame}
+use Rattle.rules.specs.Control.{known}
+use Rattle.rules.specs.Desk.{Desk, freshDesk}
+use Rattle.rules.specs.Command.{answered}
+use Rattle.rules.specs.Box.{Box, freshBox, deskAt, noDesk, frame, reply, placed}
+use Rattle.rules.specs.Legal.{boxLegal, deskLegal}
+use Rattle.rules.proofs.Facts.{DeskLegal, BoxLegal, desk-facts, box-test}
+use Rattle.rules.proofs.Legality.{fresh-facts}
+use Rattle.rules.proofs.Replies.{obey-carried}
+use Rattle.store.specs.Sound.{sound}
+use Rattle.store.specs.View.{view}
+use Rattle.store.proofs.LegalView.{legal-at}
+use Rattle.store.proofs.EveryBox.{Said, every-box}
+use Rattle.depot.specs.declared.Answer.{Answer}
+use Rattle.depot.specs.Called.{Called, Ended, stepOn}
+use Rattle.depot.proofs.Replying.{longest-fits}
+use Rattle.host.specs.declared.Request.{Request}
+use Rattle.host.specs.Request.{controlOf, dataFor, requestFrame}
+use Rattle.host.specs.Possible.{possible}
+use Rattle.host.proofs.BoxReads.{box-steps}
+use Rattle.host.proofs.Answers.{answer-possible}
+use Rattle.host.proofs.Given.{Given, possible-given}
+use Rattle.host.proofs.ReadBack.{reply-read}
+use Rattle.demands.specs.Exchange.{Carriable, ruled, replyTo, taken, toldTo, Heard, Gives}
+
+module _ (q : Request) (c : Carriable q) (s : List ℕ) (still : sound s ≡ true) (octets : Octets s) where
+  legal : DeskLegal (deskAt (view s) (q .desk))
+  legal = legal-at s still octets (q .desk) (omega (arith, c .desk))
+
+  -- every answer of a sound store is a possible one
+  pub only-possible : possible q (ruled q s .status) (length (ruled q s .sent)) ≡ true
+  only-possible = answer-possible q (deskAt (view s) (q .desk)) legal (c .bytes) (c .desk) (c .fields)
+
+  short : length (replyTo q s) ≤ 842
+  unfolding answered
+  short =
+      let r = ruled q s in
+      let small = obey-carried (known (controlOf (q .ask))) (q .kind) (deskAt (view s) (q .desk)) (dataFor q) legal .small in
+      omega (arith, length-frame (q .kind) (q .desk) (controlOf (q .ask)) (r .status ∷ r .sent), longest-fits (q .kind))
+
+  module _ (out : List ℕ) (room : 842 ≤ length out) where
+    steps : stepOn s (frame (requestFrame q) (length out)) .answer ≡ reply (replyTo q s)
+    unfolding stepOn placed
+    steps = rw (still, box-steps q (c .bytes) (view s) (length out) (c .desk) room)
+
+    front : (out′ : List ℕ) → out′ ≡ put 0 (replyTo q s) out → taken q s out′ ≡ replyTo q s
+    front out′ e =
+        ap (take (length (replyTo q s))) (e ∙ put-front (replyTo q s) out (omega (arith, short)))
+        ∙ take-at (replyTo q s) _ (length (replyTo q s)) refl
+
+    -- what the maker made is answered, and the reply in the output is read back as it was sent
+    pub host-hears : (a : Answer) (s′ out′ : List ℕ) → Called (frame (requestFrame q) (length out)) s out a s′ out′ → Heard q s a out′
+    host-hears a s′ out′ called =
+        let e : Ended (reply (replyTo q s)) (stepOn s (frame (requestFrame q) (length out)) .box) s out a s′ out′ = rw steps at (called .ended) in
+        let there = front out′ (e .1) in
+        let back = reply-read q (deskAt (view s) (q .desk)) legal (c .bytes) (c .desk) (c .fields) in
+        record { answer-is = e .0; there = there; read-is = rw there (back .0); data-is = rw there (back .1) }
+
+possible-desk : (q : Request) (status len : ℕ) → possible q status len ≡ true → q .desk ≤ 7
+unfolding possible noDesk
+possible-desk q status len e = ltb-false 7 (q .desk) (not-true _ (and-left _ _ (and-left _ _ e)))
+
+-- ---- and for every possible answer there is a sound store that gives it
+
+module _ (n : ℕ) (low : n ≤ 7) (d : Desk) (legal : DeskLegal d) where
+  abbrev boxWith : Box
+  boxWith = set freshBox n d
+
+  with-legal : boxLegal boxWith ≡ true
+  with-legal = box-test boxWith (record { size = length-set freshBox n d ∙ fresh-facts .size; each = all-set DeskLegal freshBox n d (fresh-facts .each) legal })
+
+  with-desk : deskAt boxWith n ≡ d
+  unfolding deskAt
+  with-desk = getD-set-same freshBox n d freshDesk (omega (arith, fresh-facts .size))
+
+pub some-store : (q : Request) (status len : ℕ) → length (q .bytes) ≡ 14 → possible q status len ≡ true → Gives q status len
+some-store q status len size may =
+    let g : Given q status len = possible-given q status len size may in
+    let low = possible-desk q status len may in
+    let fine = desk-facts (g .desk) (g .legal) in
+    let said : Said (set freshBox (q .desk) (g .desk)) = every-box (set freshBox (q .desk) (g .desk)) (with-legal (q .desk) low (g .desk) fine) in
+    let there : deskAt (view (said .store)) (q .desk) ≡ g .desk = ap (λ (b : Box). deskAt b (q .desk)) (said .says) ∙ with-desk (q .desk) low (g .desk) fine in
+    record { store = said .store; octets = said .octets; still = said .still; status-is = rw there (g .status-is); len-is = rw there (g .len-is) }
