@@ -1,10 +1,10 @@
 -- Hex digits, an octet at a time. Assumes nothing.
-use Prim.Native.Nat.{ℕ, _+_, _*_, _/_, _%_, _<_}
+use Prim.Native.Nat.{ℕ, _+_, _*_, _/_, _%_, _≤_, _<_}
 use mathlib.Core.Path.{_≡_, refl, sym, _∙_}
 use mathlib.Core.List.{List, [], _∷_, _++_}
 use native.Mathlib.Numerals.{add-one}
 use native.Mathlib.Omega.{arith}
-use borrow.Author.Tests.{eq-eqb, ne-eqb}
+use borrow.Author.Tests.{eq-eqb, ne-eqb, lt-ltb, le-ltb}
 use lib.ListN.{length, getD, set, take}
 use lib.Seq.{take-suc, length-take-le}
 use Rattle.octets.specs.Parts.{put}
@@ -12,6 +12,14 @@ use Rattle.octets.proofs.Puts.{put-append}
 use Rattle.octets.proofs.Joins.{put-two}
 use Rattle.rules.specs.Line.{digit, hex, shown}
 use Rattle.lines.proofs.Widths.{hex-length}
+
+pub digit-low : (n : ℕ) → n < 10 → digit n ≡ 0x30 + n
+unfolding digit
+digit-low n h = rw (lt-ltb n 10 h)
+
+pub digit-high : (n : ℕ) → 10 ≤ n → digit n ≡ 0x37 + n
+unfolding digit
+digit-high n h = rw (le-ltb n 10 h)
 
 pub shown-hex : (dbUse : ℕ) (s : List ℕ) → dbUse ≡ 2 → shown dbUse s ≡ hex s
 unfolding shown

@@ -1,4 +1,4 @@
--- The line from its pieces, and the lines one after the other. Assumes nothing.
+-- The line from its pieces. Assumes nothing.
 use Prim.Native.Nat.{ℕ, _+_}
 use mathlib.Core.Path.{_≡_, ap, _∙_}
 use mathlib.Core.List.{List, _++_}

@@ -1,8 +1,8 @@
 // Scan lines: the line of a record, as block 7 shapes it, in the rest of a lent output.
 use frame::Refusal;
-use rules::Written;
 use pieces::put_line;
 use pieces::width;
+use rules::Written;
 ghost use mathlib.Core.Path.{_≡_};
 ghost use mathlib.Core.Bool.{true};
 ghost use Prim.Native.Nat.{_*_, _≤_};

@@ -17,6 +17,7 @@ pub struct Mark {
     pub len: usize,
 }
 
+// A single octet.
 fn one(octet: u8) -> Mark
     ensures { λ r. ⌜ Holds r (octet ∷ []) ⌝ }
 {
@@ -42,7 +43,10 @@ fn mark_of(char: u8, user: [u8; 3], n: usize) -> Mark
         4 => one(0x3B),
         5 => one(0x2C),
         6 => one(0x20),
-        7 => Mark { octets: user, len: n },
+        7 => Mark {
+            octets: user,
+            len: n,
+        },
         _ => Mark {
             octets: [0, 0, 0],
             len: 0,
@@ -98,10 +102,12 @@ pub fn width(block: &[u8]) -> usize
     requires { ⌜ (length (now block) ≡ 14) × (lineLegal (now block) ≡ true) ⌝ }
     ensures { λ r. ⌜ (r ≡ widthOf (now (block .entry))) × (0 < r) ⌝ }
 {
+    // UID and timer have twelve octets.
     let shown = 12 * shown_width(block[0]);
     header_len(block) + shown + separator_of(block).len + ending_of(block).len
 }
 
+// Writes the header.
 fn put_header(block: &[u8], out: &mut [u8], at: usize) -> usize
     requires { ⌜ (length (now block) ≡ 14) × (lineLegal (now block) ≡ true) × (at + length (header (now block)) ≤ length (now out)) ⌝ }
     ensures { λ r. ⌜ (r ≡ at + length (header (now (block .entry)))) × (now (out .exit) ≡ put at (header (now (block .entry))) (now (out .entry))) ⌝ }
@@ -119,6 +125,7 @@ fn digit_of(n: u8) -> u8
     if n < 10 { 0x30 + n } else { 0x37 + n }
 }
 
+// Writes octets as hex digits.
 fn put_hex(s: &[u8], out: &mut [u8], at: usize)
     requires { ⌜ at + 2 * length (now s) ≤ length (now out) ⌝ }
     ensures { λ _. ⌜ now (out .exit) ≡ put at (hex (now (s .entry))) (now (out .entry)) ⌝ }
@@ -144,6 +151,7 @@ fn put_shown(usage: u8, s: &[u8], out: &mut [u8], at: usize) -> usize
     at + s.len()
 }
 
+// Writes a separator or an end.
 fn put_mark(mark: Mark, out: &mut [u8], at: usize) -> usize
     requires { ⌜ (mark .len ≤ length (mark .octets)) × (at + mark .len ≤ length (now out)) ⌝ }
     ensures { λ r. ⌜ (r ≡ at + mark .len) × (now (out .exit) ≡ put at (part 0 (mark .len) (mark .octets)) (now (out .entry))) ⌝ }
@@ -154,20 +162,6 @@ fn put_mark(mark: Mark, out: &mut [u8], at: usize) -> usize
     at + n
 }
 
-fn put_separator(block: &[u8], out: &mut [u8], at: usize) -> usize
-    requires { ⌜ (length (now block) ≡ 14) × (at + length (separator (now block)) ≤ length (now out)) ⌝ }
-    ensures { λ r. ⌜ (r ≡ at + length (separator (now (block .entry)))) × (now (out .exit) ≡ put at (separator (now (block .entry))) (now (out .entry))) ⌝ }
-{
-    put_mark(separator_of(block), out, at)
-}
-
-fn put_ending(block: &[u8], out: &mut [u8], at: usize) -> usize
-    requires { ⌜ (length (now block) ≡ 14) × (lineLegal (now block) ≡ true) × (at + length (ending (now block)) ≤ length (now out)) ⌝ }
-    ensures { λ r. ⌜ (r ≡ at + length (ending (now (block .entry)))) × (now (out .exit) ≡ put at (ending (now (block .entry))) (now (out .entry))) ⌝ }
-{
-    put_mark(ending_of(block), out, at)
-}
-
 // Writes the line of a record at the start of an output that has room for it.
 pub fn put_line(block: &[u8], sighted: &[u8], out: &mut [u8]) -> usize
     requires { ⌜ (length (now block) ≡ 14) × (lineLegal (now block) ≡ true) × (12 ≤ length (now sighted)) × (widthOf (now block) ≤ length (now out)) ⌝ }
@@ -176,7 +170,7 @@ pub fn put_line(block: &[u8], sighted: &[u8], out: &mut [u8]) -> usize
     let usage = block[0];
     let uid = put_header(block, out, 0);
     let sep = put_shown(usage, &sighted[..8], out, uid);
-    let timer = put_separator(block, out, sep);
+    let timer = put_mark(separator_of(block), out, sep);
     let end = put_shown(usage, &sighted[8..12], out, timer);
-    put_ending(block, out, end)
+    put_mark(ending_of(block), out, end)
 }

@@ -20,7 +20,7 @@ returns-2 c =
     no-room _ _ _ (passed (e .before .legal .ensures) (e .if1 .left)) (omega (arith, line-length (a .t1) (a .t2) (search needs)))
 
 put-line-requires : tie.Need-put-line-requires
-put-line-requires c κs = 
+put-line-requires c κs =
     let e = c .before .before .before .before .before .before in
     (search needs, passed (e .before .legal .ensures) (e .if1 .left), search needs, omega arith)
 

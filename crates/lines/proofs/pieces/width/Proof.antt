@@ -1,4 +1,5 @@
 -- `lines::pieces::width` meets its contract. Assumes nothing.
+use native.Mathlib.Omega.{arith}
 use borrow.Author.Needs.{needs}
 use Rattle.lines.specs.Pieces.{widthOf}
 use Rattle.lines.proofs.pieces.width.Statement.{statement}
@@ -6,7 +7,7 @@ use Rattle.lines.proofs.pieces.width.Tie as tie
 
 returns : tie.Need-returns
 unfolding widthOf
-returns c = search needs
+returns c = (omega arith, omega arith)
 
 pub width-spec : {M : Type 1} → statement M
 width-spec =
