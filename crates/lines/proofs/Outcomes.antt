@@ -1,0 +1,26 @@
+-- The outcomes of the two calls: refused with 6, refused with 7, written. Assumes nothing.
+use Prim.Native.Nat.{ℕ, _≤_, _<_}
+use mathlib.Core.Path.{_≡_, refl, ap}
+use mathlib.Core.Bool.{true, false}
+use mathlib.Core.List.{List}
+use borrow.Author.Tests.{lt-ltb, le-ltb}
+use lib.ListN.{length}
+use Rattle.octets.specs.Tests.{first}
+use Rattle.octets.specs.Parts.{put}
+use Rattle.frame.specs.declared.Refusal.the-variants.{OutOfRange, NoRoom}
+use Rattle.rules.specs.declared.Written.the-variants.{Octets, Refused}
+use Rattle.rules.specs.Config.{lineLegal}
+use Rattle.lines.specs.Lines.{lineRefusals, Lined}
+
+module _ (block text out : List ℕ) where
+  pub illegal : lineLegal block ≡ false → Lined block text out (Refused OutOfRange) out
+  unfolding first lineRefusals
+  illegal e = rw e (record { outcome = (refl, refl) })
+
+  pub no-room : lineLegal block ≡ true → length out < length text → Lined block text out (Refused NoRoom) out
+  unfolding first lineRefusals
+  no-room e h = rw (e, lt-ltb _ _ h) (record { outcome = (refl, refl) })
+
+  pub done : (n : ℕ) (out′ : List ℕ) → lineLegal block ≡ true → length text ≤ length out → n ≡ length text → out′ ≡ put 0 text out → Lined block text out (Octets n) out′
+  unfolding first lineRefusals
+  done n out′ e h q p = rw (e, le-ltb _ _ h) (record { outcome = (ap Octets q, p) })

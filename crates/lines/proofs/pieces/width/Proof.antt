@@ -1,0 +1,25 @@
+-- `lines::pieces::width` meets its contract. Assumes nothing.
+use native.Mathlib.Omega.{arith}
+use borrow.Author.Needs.{needs}
+use Rattle.lines.specs.Pieces.{widthOf}
+use Rattle.lines.proofs.pieces.width.Statement.{statement}
+use Rattle.lines.proofs.pieces.width.Tie as tie
+
+returns : tie.Need-returns
+unfolding widthOf
+returns c = (omega arith, omega arith)
+
+pub width-spec : {M : Type 1} → statement M
+width-spec =
+    tie.close
+    (tie.spec
+    (λ c. search needs)
+    (λ c κs. search needs)
+    (λ c. search needs)
+    (λ c κs. search needs)
+    (λ c. search needs)
+    (λ c κs. search needs)
+    (λ c. search needs)
+    (λ c κs. search needs)
+    (λ c. search needs)
+    returns)
