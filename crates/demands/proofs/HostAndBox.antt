@@ -11,7 +11,7 @@ use borrow.Author.Tests.{ltb-false, not-true}
 use Rattle.octets.specs.Numbers.{Octets}
 use Rattle.octets.proofs.Tests.{and-left}
 use Rattle.octets.specs.Parts.{part, put}
-use Rattle.octets.proofs.Each.{all-set}
+use Rattle.octets.proofs.Each.{all-set, all-getD}
 use Rattle.octets.proofs.Puts.{put-front}
 use Rattle.frame.specs.declared.Kind.{Kind}
 use Rattle.frame.specs.declared.Kind.the-variants.{Standard, Advanced}
@@ -24,12 +24,12 @@ use Rattle.rules.specs.Desk.{Desk, freshDesk}
 use Rattle.rules.specs.Command.{answered}
 use Rattle.rules.specs.Box.{Box, freshBox, deskAt, noDesk, frame, reply, placed}
 use Rattle.rules.specs.Legal.{boxLegal, deskLegal}
-use Rattle.rules.proofs.Facts.{DeskLegal, BoxLegal, desk-facts, box-test}
-use Rattle.rules.proofs.Legality.{fresh-facts}
+use Rattle.rules.proofs.Facts.{DeskLegal, BoxLegal, desk-facts, box-facts, box-test}
+use Rattle.rules.proofs.Legality.{fresh-facts, fresh-desk-legal}
 use Rattle.rules.proofs.Replies.{obey-carried}
 use Rattle.store.specs.Sound.{sound}
 use Rattle.store.specs.View.{view}
-use Rattle.store.proofs.LegalView.{legal-at}
+use Rattle.store.proofs.LegalView.{view-legal}
 use Rattle.store.proofs.EveryBox.{Said, every-box}
 use Rattle.depot.specs.declared.Answer.{Answer}
 use Rattle.depot.specs.Called.{Called, Ended, stepOn}
@@ -45,7 +45,8 @@ use Rattle.demands.specs.Exchange.{Carriable, ruled, replyTo, taken, tol
 
 module _ (q : Request) (c : Carriable q) (s : List ℕ) (still : sound s ≡ true) (octets : Octets s) where
   legal : DeskLegal (deskAt (view s) (q .desk))
-  legal = legal-at s still octets (q .desk) (omega (arith, c .desk))
+  unfolding deskAt
+  legal = all-getD DeskLegal (view s) (q .desk) freshDesk (box-facts (view s) (view-legal s still octets) .each) fresh-desk-legal
 
   -- every answer of a sound store is a possible one
   pub only-possible : possible q (ruled q s .status) (length (ruled q s .sent)) ≡ true

@@ -11,7 +11,8 @@ use Rattle.rules.specs.Records.{mostSent}
 use Rattle.host.specs.declared.Ask.{Ask}
 use Rattle.host.specs.declared.Request.{Request}
 use Rattle.host.specs.Request.{denied}
-use Rattle.host.specs.Possible.{plain, recordsFor, statusMay, recordsMay, allowed, needsLogin, mayAnswer}
+use Rattle.host.specs.Possible.{plain, statusMay, recordsMay, allowed, needsLogin, mayAnswer}
+use Rattle.rules.specs.Records.{recordsFor}
 
 false-or : (b : Bool) → b || false ≡ b
 false-or true = refl

@@ -14,7 +14,7 @@ use Rattle.octets.proofs.Rows.{Wide, length-concat}
 use Rattle.table.specs.Entries.{recordWidth}
 use Rattle.rules.specs.Records.{counted}
 use Rattle.rules.proofs.Facts.{RecordLegal}
-use Rattle.host.specs.Possible.{recordsFor}
+use Rattle.rules.specs.Records.{recordsFor}
 
 pub legal-wide : (rs : List (List ℕ)) → All RecordLegal rs → Wide recordWidth rs
 unfolding Wide

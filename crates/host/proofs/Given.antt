@@ -22,7 +22,8 @@ use Rattle.host.specs.declared.Ask.{Ask}
 use Rattle.host.specs.declared.Ask.the-variants.{Baud, Reset, SystemReset, ReadBlock, WriteBlock, SaveBlocks, RestoreBlocks, SetTimer, SendTimer, Login, ReadRecords, SendTable, RemoveRecords, ClearRecords}
 use Rattle.host.specs.declared.Request.{Request}
 use Rattle.host.specs.Request.{fieldsHold, denied}
-use Rattle.host.specs.Possible.{pair, plain, recordsFor, statusMay, recordsMay, allowed, needsLogin, mayAnswer, possible}
+use Rattle.host.specs.Possible.{pair, plain, statusMay, recordsMay, allowed, needsLogin, mayAnswer, possible}
+use Rattle.rules.specs.Records.{recordsFor}
 use Rattle.host.proofs.Asked.{answerTo, asked-barred}
 use Rattle.host.proofs.Denied.{denied-is}
 use Rattle.host.proofs.Answers.{k-back, sent-length, openMay, open-may}

@@ -17,7 +17,7 @@ use Rattle.table.specs.Entries.{recordWidth}
 use Rattle.host.specs.declared.typed.Block.{Block}
 use Rattle.host.specs.declared.typed.TimerTold.{TimerTold}
 use Rattle.host.specs.declared.typed.RecordTold.{RecordTold}
-use Rattle.host.specs.Possible.{recordsFor}
+use Rattle.rules.specs.Records.{recordsFor}
 use Rattle.host.specs.Typed.{blockTold, timerTold, sightingFrom, recordTold}
 
 -- fourteen bytes, written over zeros

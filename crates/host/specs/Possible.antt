@@ -1,11 +1,11 @@
 -- The status and data length that a box can answer to a request. Assumes nothing.
-use Prim.Native.Nat.{ℕ, _+_, _-_, _*_, _/_, min}
+use Prim.Native.Nat.{ℕ, _+_, _*_, min}
 use mathlib.Core.Bool.{Bool, true, false, cond, not, _&&_, _||_}
 use lib.Dec.{eqb, ltb, leb}
 use Rattle.frame.specs.declared.Kind.{Kind}
 use Rattle.table.specs.Entries.{recordWidth, share}
 use Rattle.rules.specs.Config.{blockOf}
-use Rattle.rules.specs.Records.{mostSent}
+use Rattle.rules.specs.Records.{mostSent, recordsFor}
 use Rattle.rules.specs.Box.{noDesk}
 use Rattle.host.specs.declared.Ask.{Ask}
 use Rattle.host.specs.declared.Ask.the-variants.{Baud, Reset, SystemReset, ReadBlock, WriteBlock, SaveBlocks, RestoreBlocks, SetTimer, SendTimer, Login, ReadRecords, SendTable, RemoveRecords, ClearRecords}
@@ -21,10 +21,6 @@ unfoldable pub plain : ℕ → ℕ → ℕ → Bool
 plain wanted status len = pair wanted 0 status len
 
 -- ---- 0x22
-
--- how many records stand behind their count in so many octets
-unfoldable pub recordsFor : ℕ → ℕ
-recordsFor len = (len - 2) / recordWidth
 
 -- the status that n records come with, where k and those held allow `wanted`, and `fit` of them fit: 0x93 with 64 held and so as many as can go;
 -- 0x94 with fewer than wanted

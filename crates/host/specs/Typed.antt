@@ -14,7 +14,7 @@ use Rattle.host.specs.declared.typed.Sizes.{Sizes}
 use Rattle.host.specs.declared.typed.SizesTold.{SizesTold}
 use Rattle.host.specs.declared.typed.Sighting.{Sighting}
 use Rattle.host.specs.declared.typed.RecordTold.{RecordTold}
-use Rattle.host.specs.Possible.{recordsFor}
+use Rattle.rules.specs.Records.{recordsFor}
 
 -- 0x80: fourteen bytes
 unfoldable pub blockTold : List ℕ → Block

@@ -6,6 +6,7 @@ use crate::range::is_denied;
 use frame::Kind;
 use rules::adr::block_of;
 use rules::most_sent;
+use rules::records_for;
 ghost use mathlib.Core.Path.{_≡_};
 ghost use mathlib.Core.Bool.{true, cond, _&&_, _||_};
 ghost use Prim.Native.Nat.{_<_, min};
@@ -13,7 +14,7 @@ ghost use lib.Dec.{eqb};
 ghost use Rattle.table.specs.Entries.{share};
 ghost use Rattle.rules.specs.Config.{blockOf};
 ghost use Rattle.host.specs.Request.{fieldsHold};
-ghost use Rattle.host.specs.Possible.{pair, plain, recordsFor, statusMay, recordsMay, allowed, needsLogin, mayAnswer, possible};
+ghost use Rattle.host.specs.Possible.{pair, plain, statusMay, recordsMay, allowed, needsLogin, mayAnswer, possible};
 
 fn is_pair(wanted: u8, size: usize, status: u8, len: usize) -> bool
     ensures { λ r. ⌜ r ≡ pair wanted size status len ⌝ }
@@ -28,16 +29,6 @@ fn is_plain(wanted: u8, status: u8, len: usize) -> bool
     ensures { λ r. ⌜ r ≡ plain wanted status len ⌝ }
 {
     is_pair(wanted, 0, status, len)
-}
-
-// How many records stand behind their count.
-pub fn records_for(len: usize) -> usize
-    ensures { λ r. ⌜ r ≡ recordsFor len ⌝ }
-{
-    if len < 2 {
-        return 0;
-    }
-    (len - 2) / table::RECORD
 }
 
 // k, and no more than a desk holds.

@@ -1,5 +1,5 @@
 // What the data of a reply say, for those who want it typed.
-use crate::possible::records_for;
+use rules::records_for;
 use timer::Timer;
 ghost use mathlib.Core.Path.{_≡_};
 ghost use Rattle.host.specs.Typed.{blockTold, timerTold, sizesTold, recordTold};

@@ -12,6 +12,7 @@ use Rattle.octets.proofs.Joins.{put-next}
 use Rattle.octets.proofs.Lent.{put-lent}
 use Rattle.octets.proofs.Rows.{Wide, rows-length, rows-wide, rows-snoc, concat-append, concat-one, length-concat}
 use Rattle.table.specs.Entries.{recordWidth}
+use Rattle.rules.specs.Records.{recordsFor}
 use Rattle.rules.specs.Line.{line}
 use Rattle.lines.specs.Lines.{recordsIn, linesOf}
 use Rattle.lines.specs.Pieces.{widthOf}
@@ -30,12 +31,13 @@ room-short room n m p h = rw (mul-comm n m) (div-lt-iff-lt-mul p .0 h)
 pub room-enough : (room n m : ℕ) → 0 < n → m ≤ room / n → n * m ≤ room
 room-enough room n m p h = rw (mul-comm n m) (le-div-iff-mul-le p .0 h)
 
-pub records-length : (sent : List ℕ) → length (recordsIn sent) ≡ (length sent - 2) / recordWidth
+pub records-length : (sent : List ℕ) → length (recordsIn sent) ≡ recordsFor (length sent)
 unfolding recordsIn
 records-length sent = rows-length _ _ _
 
 -- all records lie in what was sent
 pub records-fit : (sent : List ℕ) (k : ℕ) → k ≤ length (recordsIn sent) → recordWidth * k ≤ length sent - 2
+unfolding recordsFor
 records-fit sent k h = omega (arith, records-length sent)
 
 -- ---- the first k lines

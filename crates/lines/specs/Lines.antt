@@ -1,5 +1,5 @@
 -- Scan lines in a lent output: when they are refused, and what is written. Assumes nothing.
-use Prim.Native.Nat.{ℕ, _-_, _/_}
+use Prim.Native.Nat.{ℕ}
 use mathlib.Core.Bool.{Bool, not}
 use mathlib.Core.List.{List, [], _∷_, map}
 use lib.ListN.{length, drop}
@@ -11,6 +11,7 @@ use Rattle.frame.specs.declared.Refusal.the-variants.{OutOfRange, NoRoom}
 use Rattle.table.specs.Entries.{recordWidth}
 use Rattle.rules.specs.declared.Written.{Written}
 use Rattle.rules.specs.Config.{lineLegal}
+use Rattle.rules.specs.Records.{recordsFor}
 use Rattle.rules.specs.Output.{Wrote}
 use Rattle.rules.specs.Line.{line}
 
@@ -24,7 +25,7 @@ Lined block text out a out′ = Wrote (first (lineRefusals block text (length ou
 
 -- the records that the data of a 0x22 reply carry, behind their count
 unfoldable pub recordsIn : List ℕ → List (List ℕ)
-recordsIn sent = rows ((length sent - 2) / recordWidth) recordWidth (drop 2 sent)
+recordsIn sent = rows (recordsFor (length sent)) recordWidth (drop 2 sent)
 
 -- a line for each, one after the other
 unfoldable pub linesOf : List ℕ → List ℕ → List ℕ

@@ -40,10 +40,7 @@ pub fn line(block: [u8; 14], sighted: [u8; 13], out: &mut [u8]) -> Written
 fn records(sent: &[u8]) -> usize
     ensures { λ r. ⌜ r ≡ length (recordsIn (now (sent .entry))) ⌝ }
 {
-    if sent.len() < 2 {
-        return 0;
-    }
-    (sent.len() - 2) / table::RECORD
+    rules::records_for(sent.len())
 }
 
 // Writes the lines of all m records into an output that has room for them, each into what is left behind the last.

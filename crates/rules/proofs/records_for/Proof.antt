@@ -1,9 +1,9 @@
--- `host::possible::records_for` meets its contract. Assumes nothing.
+-- `rules::records_for` meets its contract. Assumes nothing.
 use mathlib.Core.Path.{refl}
 use native.Mathlib.Omega.{arith}
-use Rattle.host.specs.Possible.{recordsFor}
-use Rattle.host.proofs.possible.records_for.Statement.{statement}
-use Rattle.host.proofs.possible.records_for.Tie as tie
+use Rattle.rules.specs.Records.{recordsFor}
+use Rattle.rules.proofs.records_for.Statement.{statement}
+use Rattle.rules.proofs.records_for.Tie as tie
 
 returns : tie.Need-returns
 unfolding recordsFor
