@@ -59,12 +59,13 @@ entries used: poke 0005 01
 full and sound: poke 01CD 01 01CE 40 01CF 3F
 ";
 
-// Whether the octets of store and output are those that were noted.
-fn kept(store: &[u8], before: &[u8], out: &[u8], noted: &[u8]) -> bool {
-    if !show::alike(store, before) {
-        return false;
+// Says whether the octets of store and output are those that were noted.
+fn compare(store: &[u8], before: &[u8], out: &[u8], noted: &[u8]) {
+    if show::alike(store, before) && show::alike(out, noted) {
+        show::word(b"kept\n");
+    } else {
+        show::word(b"changed\n");
     }
-    show::alike(out, noted)
 }
 
 fn ask(line: &[u8], store: &mut [u8], out: &mut [u8]) {
@@ -83,11 +84,7 @@ fn probe(name: &[u8], store: &mut [u8], out: &mut [u8]) {
     ask(b": standard 00 31", store, out);
     ask(b": uid 00 01 0000000000002000", store, out);
     ask(b": tick", store, out);
-    if kept(store, &before, out, &noted) {
-        show::word(b"kept\n");
-    } else {
-        show::word(b"changed\n");
-    }
+    compare(store, &before, out, &noted);
 }
 
 fn sizes(store: &[u8], out: &mut [u8]) {

@@ -68,11 +68,8 @@ fn said(s: Said) -> usize {
     }
 }
 
-// A line: what the first store says to an event, and whether the second says the same.
-fn compare(line: &[u8], store: &mut [u8], out: &mut [u8], other: &mut [u8], other_out: &mut [u8]) {
-    let a = show::act(line, store, out);
-    let b = show::act(line, other, other_out);
-    show::say(out, a);
+// Whether two answers, and the octets of the outputs, are the same.
+fn verdict(a: Said, b: Said, out: &[u8], other_out: &[u8]) {
     if said(a) != said(b) {
         show::word(b" other answer\n");
         return;
@@ -82,6 +79,14 @@ fn compare(line: &[u8], store: &mut [u8], out: &mut [u8], other: &mut [u8], othe
     } else {
         show::word(b" other octets\n");
     }
+}
+
+// A line: what the first store says to an event, and whether the second says the same.
+fn compare(line: &[u8], store: &mut [u8], out: &mut [u8], other: &mut [u8], other_out: &mut [u8]) {
+    let a = show::act(line, store, out);
+    let b = show::act(line, other, other_out);
+    show::say(out, a);
+    verdict(a, b, out, other_out);
 }
 
 fn events(script: &[u8], store: &mut [u8], out: &mut [u8], other: &mut [u8], other_out: &mut [u8]) {

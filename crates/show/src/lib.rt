@@ -17,7 +17,7 @@ use frame::Sealed;
 use frame::Standard;
 use libc::STDOUT_FILENO;
 use rules::Seen;
-ghost use Prim.Native.Nat.{_≤_, _<_};
+ghost use Prim.Native.Nat.{_≤_};
 ghost use lib.ListN.{length};
 
 // What a step of a script comes to.
@@ -73,21 +73,19 @@ fn number(n: u64) {
     io::print_decimal(STDOUT_FILENO, n);
 }
 
-fn glyph(d: u8) -> u8
-    requires { ⌜ d < 16 ⌝ }
-{
-    if d < 10 { 48 + d } else { 55 + d }
-}
-
-fn octet(b: u8) {
-    let text = [glyph(b / 16), glyph(b % 16)];
-    io::write_all(STDOUT_FILENO, &text);
+// The last hex digit of a number.
+fn glyph(b: u8) {
+    let d = b % 16;
+    let c = if d < 10 { 48 + d } else { 55 + d };
+    word(&[c]);
 }
 
 fn hex(s: &[u8]) {
     let mut i: usize = 0;
     while i < s.len() {
-        octet(s[i]);
+        let b = s[i];
+        glyph(b / 16);
+        glyph(b);
         i += 1;
     }
 }
@@ -256,12 +254,10 @@ fn pokes(d: &[u8], store: &mut [u8]) {
     }
 }
 
-fn deed(letter: u8, d: &[u8], store: &mut [u8], out: &mut [u8]) -> Said {
+// What needs no output.
+fn event(letter: u8, d: &[u8], store: &mut [u8]) -> Said {
     match letter {
         b'f' => Said::Answer(depot::fresh(store)),
-        b's' => ask(d, Kind::Standard, store, out),
-        b'a' => ask(d, Kind::Advanced, store, out),
-        b'o' => Said::Answer(depot::frame(store, d, out)),
         b'u' => sight(d, store),
         b'm' => Said::Count(sight_many(store, peek(d, 0), peek(d, 1))),
         b't' => Said::Answer(depot::tick(store)),
@@ -270,6 +266,15 @@ fn deed(letter: u8, d: &[u8], store: &mut [u8], out: &mut [u8]) -> Said {
             Said::Answer(Answer::Done)
         }
         _ => Said::Nothing,
+    }
+}
+
+fn deed(letter: u8, d: &[u8], store: &mut [u8], out: &mut [u8]) -> Said {
+    match letter {
+        b's' => ask(d, Kind::Standard, store, out),
+        b'a' => ask(d, Kind::Advanced, store, out),
+        b'o' => Said::Answer(depot::frame(store, d, out)),
+        _ => event(letter, d, store),
     }
 }
 
@@ -297,19 +302,24 @@ pub fn name(line: &[u8]) {
     word(b" ");
 }
 
-// A step of a script.
-pub fn step(line: &[u8], store: &mut [u8], out: &mut [u8]) {
+// A line with what a step came to, where it has a name.
+fn tell(line: &[u8], out: &[u8], s: Said) {
     let at = until(line, 0, b':');
-    if at == line.len() {
+    if at == 0 {
         return;
     }
-    let s = act(line, store, out);
-    if at == 0 {
+    if at == line.len() {
         return;
     }
     name(line);
     say(out, s);
     word(b"\n");
+}
+
+// A step of a script.
+pub fn step(line: &[u8], store: &mut [u8], out: &mut [u8]) {
+    let s = act(line, store, out);
+    tell(line, out, s);
 }
 
 // All steps of a script.
