@@ -1,248 +1,129 @@
-// Stores that break one rule of soundness each: every call refuses them with 1, and all octets are kept.
-use frame::Kind;
-
-// Where the row of desk 0 and the entries begin in a store that was made fresh.
-const ROWS: usize = 6;
-
-const TABLE: usize = 8798;
-
-// ---- a broken store
+// Stores that break one rule of soundness each: every call refuses them with 1, and all octets are kept. `show` says how a
+// line of a script reads.
 
 // A sound store: desk 0 is logged in and holds 5 records and locks, desk 1 one.
-fn made(store: &mut [u8], out: &mut [u8]) {
-    depot::fresh(store);
-    show::ask(store, out, Kind::Standard, 0, 0xA0, b"\x00\x00\x00\x00");
-    show::sight_many(store, 0, 5);
-    show::sight_many(store, 1, 1);
-    depot::tick(store);
-}
+const MADE: [u8; 68] = *b"
+: fresh
+: standard 00 A0 00000000
+: many 00 05
+: many 01 01
+: tick
+";
 
-// What the three calls say to a store.
-fn calls(store: &mut [u8], out: &mut [u8]) {
-    let a = show::ask(store, out, Kind::Standard, 0, 0x31, b"");
-    show::answer(out, a);
-    show::word(b" ");
-    show::answer(b"", depot::sighting(store, 0, 0x2000, 1));
-    show::word(b" ");
-    show::answer(b"", depot::tick(store));
-}
+// Where a line pokes, a copy of the store is tried.
+const RULES: [u8; 1220] = *b"
+The rows end at 24758, the entries at 16385; the entries begin in the last octet of the rows, the rows in that of the header.
+rows outside: poke 0000 3E 0001 5E
+entries outside: poke 0002 24 0003 01
+entries in rows: poke 0003 5D
+rows in header: poke 0001 05
 
-// Whether the octets of store and output are those that were noted.
-fn kept(store: &[u8], before: &[u8], out: &[u8], noted: &[u8]) -> bool {
-    if !show::alike(store, before) {
-        return false;
+Counts out of range. The entries begin at 225E, the row of desk 0 at 0006.
+owner: poke 225E 08
+login: poke 01C8 02
+table start: poke 01CF 40
+due: poke 01CE 06
+
+Timers and blocks 7.
+hour: poke 01C9 18
+minute: poke 01CA 3C
+milliseconds: poke 01CB EA 01CC 60
+use in ram: poke 0068 01
+separator in ram: poke 0069 21
+end in eeprom: poke 014B 03
+length in eeprom: poke 0155 44
+last desk: poke 1FD6 18
+
+Locks.
+lock of none: poke 01DA 00
+lock too long: poke 01DA 38
+locked twice: poke 01E2 00
+
+With 63 records and then with 64 at desk 0. Entry 5 is of desk 1, and given to desk 0 this holds 65.
+sight many: many 00 3F
+mark: poke 01CD 01
+sight many: many 00 40
+mark two: poke 01CD 02
+share: poke 22A4 00
+locks: poke 01D0 41
+
+A full table, and what is at the edge of the rules and sound, which is answered.
+: many 01 40
+: many 02 40
+: many 03 40
+: many 04 40
+: many 05 40
+: many 06 40
+: many 07 40
+entries used: poke 0005 01
+full and sound: poke 01CD 01 01CE 40 01CF 3F
+";
+
+// Says whether the octets of store and output are those that were noted.
+fn compare(store: &[u8], before: &[u8], out: &[u8], noted: &[u8]) {
+    if show::alike(store, before) && show::alike(out, noted) {
+        show::word(b"kept\n");
+    } else {
+        show::word(b"changed\n");
     }
-    show::alike(out, noted)
+}
+
+fn ask(line: &[u8], store: &mut [u8], out: &mut [u8]) {
+    let s = show::act(line, store, out);
+    show::say(out, s);
+    show::word(b" ");
 }
 
 // A line: the name of the store, what the three calls say to it, and whether all octets are as before.
-fn probe(name: &[u8], store: &mut [u8], before: &[u8], out: &mut [u8]) {
+fn probe(name: &[u8], store: &mut [u8], out: &mut [u8]) {
+    let mut before = [0u8; 16385];
     let mut noted = [0u8; 842];
+    show::place(&mut before, 0, store);
     show::place(&mut noted, 0, out);
-    show::word(name);
-    show::word(b" ");
-    calls(store, out);
-    if kept(store, before, out, &noted) {
-        show::word(b" kept\n");
-    } else {
-        show::word(b" changed\n");
-    }
+    show::name(name);
+    ask(b": standard 00 31", store, out);
+    ask(b": uid 00 01 0000000000002000", store, out);
+    ask(b": tick", store, out);
+    compare(store, &before, out, &noted);
 }
 
-// Writes an octet of both.
-fn both(store: &mut [u8], before: &mut [u8], at: usize, v: u8) {
-    show::poke(store, at, v);
-    show::poke(before, at, v);
-}
-
-// The store with one octet written, which is then put back.
-fn one(name: &[u8], store: &mut [u8], before: &mut [u8], out: &mut [u8], at: usize, v: u8) {
-    let was = show::peek(store, at);
-    both(store, before, at, v);
-    probe(name, store, before, out);
-    both(store, before, at, was);
-}
-
-// Two octets.
-fn two(
-    name: &[u8],
-    store: &mut [u8],
-    before: &mut [u8],
-    out: &mut [u8],
-    at: usize,
-    v: u8,
-    at_too: usize,
-    v_too: u8,
-) {
-    let was = show::peek(store, at);
-    both(store, before, at, v);
-    one(name, store, before, out, at_too, v_too);
-    both(store, before, at, was);
-}
-
-// ---- rule by rule
-
-fn sizes(store: &mut [u8], before: &[u8], out: &mut [u8]) {
+fn sizes(store: &[u8], out: &mut [u8]) {
     let mut long = [0u8; 16385];
-    let mut long_before = [0u8; 16385];
     show::place(&mut long, 0, store);
-    show::place(&mut long_before, 0, store);
-    probe(b"one octet more", &mut long, &long_before, out);
-    if 16383 <= store.len() {
-        probe(b"one octet less", &mut store[..16383], before, out);
+    probe(b"one octet more", &mut long, out);
+    probe(b"one octet less", &mut long[..16383], out);
+}
+
+// A copy of the store, with octets written.
+fn copy(line: &[u8], store: &[u8], out: &mut [u8]) {
+    let mut copy = [0u8; 16384];
+    show::place(&mut copy, 0, store);
+    show::act(line, &mut copy, out);
+    probe(line, &mut copy, out);
+}
+
+fn step(line: &[u8], store: &mut [u8], out: &mut [u8]) {
+    if show::letter(line) == b'p' {
+        copy(line, store, out);
+    } else {
+        show::step(line, store, out);
     }
 }
 
-// The rows end at 24758, the entries at 16385; the entries begin in the last octet of the rows, the rows in that of the header.
-fn areas(k: u8, store: &mut [u8], before: &mut [u8], out: &mut [u8]) {
-    match k {
-        0 => two(b"rows outside", store, before, out, 0, 0x3E, 1, 0x5E),
-        1 => two(b"entries outside", store, before, out, 2, 0x24, 3, 0x01),
-        2 => one(b"entries in rows", store, before, out, 3, 0x5D),
-        3 => one(b"rows in header", store, before, out, 1, 5),
-        _ => show::word(b""),
+fn rules(script: &[u8], store: &mut [u8], out: &mut [u8]) {
+    let mut at: usize = 0;
+    while at < script.len() {
+        let start = at + 1;
+        let end = show::until(script, start, b'\n');
+        step(&script[start..end], store, out);
+        at = end;
     }
-}
-
-// Counts out of range.
-fn counts(k: u8, store: &mut [u8], before: &mut [u8], out: &mut [u8]) {
-    match k {
-        0 => one(b"owner", store, before, out, TABLE, 8),
-        1 => one(b"login", store, before, out, ROWS + 450, 2),
-        2 => one(b"table start", store, before, out, ROWS + 457, 64),
-        3 => one(b"due", store, before, out, ROWS + 456, 6),
-        _ => show::word(b""),
-    }
-}
-
-// Timers and blocks 7.
-fn legal(k: u8, store: &mut [u8], before: &mut [u8], out: &mut [u8]) {
-    match k {
-        0 => one(b"hour", store, before, out, ROWS + 451, 24),
-        1 => one(b"minute", store, before, out, ROWS + 452, 60),
-        2 => two(
-            b"milliseconds",
-            store,
-            before,
-            out,
-            ROWS + 453,
-            0xEA,
-            ROWS + 454,
-            0x60,
-        ),
-        3 => one(b"use in ram", store, before, out, ROWS + 98, 1),
-        4 => one(b"separator in ram", store, before, out, ROWS + 99, 0x21),
-        5 => one(b"end in eeprom", store, before, out, ROWS + 224 + 101, 0x03),
-        6 => one(
-            b"length in eeprom",
-            store,
-            before,
-            out,
-            ROWS + 224 + 111,
-            0x44,
-        ),
-        7 => one(b"last desk", store, before, out, ROWS + 7 * 1099 + 451, 24),
-        _ => show::word(b""),
-    }
-}
-
-// Locks.
-fn locks(k: u8, store: &mut [u8], before: &mut [u8], out: &mut [u8]) {
-    match k {
-        0 => one(b"lock of none", store, before, out, ROWS + 459 + 9, 0),
-        1 => one(b"lock too long", store, before, out, ROWS + 459 + 9, 56),
-        2 => one(b"locked twice", store, before, out, ROWS + 459 + 17, 0),
-        _ => show::word(b""),
-    }
-}
-
-// Sights tags at desk 0, of which those that are locked are ignored, and notes the store.
-fn sight(store: &mut [u8], before: &mut [u8], n: u8) {
-    show::many(store, b"sight many", 0, n);
-    show::place(before, 0, store);
-}
-
-// With 63 records and then with 64 at desk 0. Entry 5 is desk 1's: given to desk 0, this holds 65.
-fn marks(k: u8, store: &mut [u8], before: &mut [u8], out: &mut [u8]) {
-    match k {
-        0 => sight(store, before, 63),
-        1 => one(b"mark", store, before, out, ROWS + 455, 1),
-        2 => sight(store, before, 64),
-        3 => one(b"mark two", store, before, out, ROWS + 455, 2),
-        4 => one(b"share", store, before, out, TABLE + 5 * 14, 0),
-        5 => one(b"locks", store, before, out, ROWS + 458, 65),
-        _ => show::word(b""),
-    }
-}
-
-// Gives entry i to desk i % 8, for all 512 and no more.
-fn give_all(store: &mut [u8]) {
-    let mut i: usize = 0;
-    while i < 512 {
-        show::poke(store, TABLE + i * 14, (i % 8) as u8);
-        i += 1;
-    }
-    show::poke(store, 4, 2);
-    show::poke(store, 5, 0);
-}
-
-// A full table.
-fn fill(store: &mut [u8], before: &mut [u8]) {
-    give_all(store);
-    give_all(before);
-}
-
-// A table that is full; and what is at the edge of the rules and sound, which is answered.
-fn edges(k: u8, store: &mut [u8], before: &mut [u8], out: &mut [u8]) {
-    match k {
-        0 => fill(store, before),
-        1 => one(b"entries used", store, before, out, 5, 1),
-        2 => both(store, before, ROWS + 455, 1),
-        3 => both(store, before, ROWS + 456, 64),
-        4 => both(store, before, ROWS + 457, 63),
-        5 => probe(b"full and sound", store, before, out),
-        _ => show::word(b""),
-    }
-}
-
-// Step k of part p, where there is one.
-fn step(p: u8, k: u8, store: &mut [u8], before: &mut [u8], out: &mut [u8]) {
-    match p {
-        0 => areas(k, store, before, out),
-        1 => counts(k, store, before, out),
-        2 => legal(k, store, before, out),
-        3 => locks(k, store, before, out),
-        4 => marks(k, store, before, out),
-        _ => edges(k, store, before, out),
-    }
-}
-
-fn part(p: u8, store: &mut [u8], before: &mut [u8], out: &mut [u8]) {
-    let mut k: u8 = 0;
-    while k < 8 {
-        step(p, k, store, before, out);
-        k += 1;
-    }
-}
-
-fn rules(store: &mut [u8], before: &mut [u8], out: &mut [u8]) {
-    let mut p: u8 = 0;
-    while p < 6 {
-        part(p, store, before, out);
-        p += 1;
-    }
-}
-
-fn broken(store: &mut [u8], before: &mut [u8], out: &mut [u8]) {
-    made(store, out);
-    show::place(before, 0, store);
-    sizes(store, before, out);
-    rules(store, before, out);
 }
 
 fn main() {
     let mut store = [0u8; 16384];
-    let mut before = [0u8; 16384];
     let mut out = [0x5Au8; 842];
-    broken(&mut store, &mut before, &mut out);
+    show::play(&MADE, &mut store, &mut out);
+    sizes(&store, &mut out);
+    rules(&RULES, &mut store, &mut out);
 }

@@ -1,124 +1,118 @@
-// A day of the box: two desks, 0 and 3, in one store. A line a step: a word, and what the box answers.
-use show::UID;
+// A day of the box: two desks, 0 and 3, in one store. `show` says how a line of the script reads.
 
-// Sightings up to 64 records, and one more.
-fn full(k: u8, store: &mut [u8], out: &mut [u8]) {
-    match k {
-        0 => show::many(store, b"sight many", 0, 61),
-        1 => show::sighting(store, b"sight locked", 0, UID, 1),
-        2 => show::standard(store, out, b"records unmarked", 0, 0x22, b"\x00\x01"),
-        3 => show::sighting(store, b"sight", 0, 0x1000, 1),
-        4 => show::standard(store, out, b"table", 0, 0x31, b""),
-        5 => show::standard(store, out, b"records", 0, 0x22, b"\x00\x64"),
-        6 => show::standard(store, out, b"remove", 0, 0x32, b""),
-        7 => show::standard(store, out, b"table", 0, 0x31, b""),
-        8 => show::advanced(store, out, b"records advanced", 0, 0x22, b"\x00\x64"),
-        9 => show::sighting(store, b"sight later", 0, 0x1000, 1),
-        10 => show::advanced(store, out, b"remove advanced", 0, 0x32, b""),
-        11 => show::standard(store, out, b"table", 0, 0x31, b""),
-        12 => show::standard(store, out, b"records", 0, 0x22, b"\x00\x64"),
-        _ => show::word(b""),
-    }
-}
+const DAY: [u8; 3088] = *b"
+A fresh store, a login, and a block in either memory.
+fresh: fresh
+login wrong: standard 00 A0 00000001
+login: standard 00 A0 00000000
+write ram: standard 00 81 020102030405060708090A0B0C0D0E
+write eeprom: standard 00 81 82A1A2A3A4A5A6A7A8A9AAABACADAE
+read ram: standard 00 80 02
+read eeprom: standard 00 80 82
+read other desk: standard 03 80 02
+read zero: standard 00 80 00
+read last: standard 00 80 0F
+read none: standard 00 80 10
+read all: standard 00 80 40
 
-// The other desk: cut by room, removed once.
-fn other_desk(k: u8, store: &mut [u8], out: &mut [u8]) {
-    match k {
-        0 => show::many(store, b"sight many", 3, 20),
-        1 => show::standard(store, out, b"records none", 3, 0x22, b"\x00\x00"),
-        2 => show::standard(store, out, b"records few", 3, 0x22, b"\x00\x13"),
-        3 => show::standard(store, out, b"records", 3, 0x22, b"\x00\x64"),
-        4 => show::standard(store, out, b"remove", 3, 0x32, b""),
-        5 => show::standard(store, out, b"table", 3, 0x31, b""),
-        6 => show::standard(store, out, b"remove", 3, 0x32, b""),
-        7 => show::standard(store, out, b"table", 3, 0x31, b""),
-        8 => show::standard(store, out, b"records", 3, 0x22, b"\x00\x01"),
-        _ => show::word(b""),
-    }
-}
+Block 7, and what is saved and restored.
+write line: standard 00 81 0702212C0100000000000000000000
+read line: standard 00 80 07
+save wrong: standard 00 82 82
+save: standard 00 82 02
+read eeprom: standard 00 80 82
+restore: standard 00 83 02
+read ram: standard 00 80 02
+reset: standard 00 63
+read ram: standard 00 80 02
+login: standard 00 A0 00000000
+read ram: standard 00 80 02
 
-// Records and locks are emptied.
-fn emptied(k: u8, store: &mut [u8], out: &mut [u8]) {
-    match k {
-        0 => show::sighting(store, b"sight locked", 0, 0x1000, 1),
-        1 => show::standard(store, out, b"clear", 0, 0x33, b""),
-        2 => show::standard(store, out, b"table", 0, 0x31, b""),
-        3 => show::standard(store, out, b"records", 0, 0x22, b"\x00\x01"),
-        4 => show::sighting(store, b"sight unlocked", 0, 0x1000, 1),
-        5 => show::standard(store, out, b"table", 0, 0x31, b""),
-        6 => show::standard(store, out, b"table other desk", 3, 0x31, b""),
-        7 => show::standard(store, out, b"system reset", 3, 0x64, b""),
-        8 => show::standard(store, out, b"remove", 3, 0x32, b""),
-        9 => show::standard(store, out, b"table", 3, 0x31, b""),
-        10 => show::sighting(store, b"sight unlocked", 3, UID, 1),
-        _ => show::word(b""),
-    }
-}
+A new VALID-TIME counts only after a reset.
+write valid: standard 00 81 8C0003000000000000000000000000
+sight: uid 00 01 E007000001645E37
+tick: tick
+tick: tick
+tick: tick
+sight: uid 00 01 E007000001645E37
+reset: standard 00 63
+sight: uid 00 02 E007000001645E37
+sight other desk: uid 03 04 E007000001645E37
+sight: uid 00 02 E007000001645E37
 
-// The timer rolls over.
-fn clock(k: u8, store: &mut [u8], out: &mut [u8]) {
-    match k {
-        0 => show::standard(store, out, b"timer", 0, 0x86, b""),
-        1 => show::standard(store, out, b"set timer wrong", 0, 0x85, b"\x17\x3B\xEA\x60"),
-        2 => show::standard(store, out, b"set timer", 0, 0x85, b"\x17\x3B\xE9\xFC"),
-        3 => show::standard(store, out, b"timer", 0, 0x86, b""),
-        4 => show::tick(store, b"tick"),
-        5 => show::standard(store, out, b"timer", 0, 0x86, b""),
-        6 => show::advanced(store, out, b"timer other desk", 3, 0x86, b""),
-        _ => show::word(b""),
-    }
-}
+Ticks up to the end of the lock at desk 0; at desk 3 it stands on.
+tick: tick
+tick: tick
+sight: uid 00 08 E007000001645E37
+tick: tick
+sight: uid 00 08 E007000001645E37
+sight other desk: uid 03 08 E007000001645E37
+table: standard 00 31
+table other desk: standard 03 31
 
-// What is no command, and what is refused.
-fn wrong(k: u8, store: &mut [u8], out: &mut [u8]) {
-    match k {
-        0 => show::standard(store, out, b"unknown", 0, 0x84, b""),
-        1 => show::standard(store, out, b"data length", 3, 0x80, b""),
-        2 => show::standard(store, out, b"speed", 0, 0x52, b"\x00"),
-        3 => show::standard(store, out, b"speed wrong", 0, 0x52, b"\x01"),
-        4 => show::raw(store, out, b"empty frame", b""),
-        5 => show::raw(store, out, b"short frame", b"\x04\x00\x64\x00"),
-        6 => show::raw(store, out, b"wrong check", b"\x05\x00\x64\x00\x00"),
-        7 => show::standard(store, out, b"no desk", 8, 0x64, b""),
-        8 => show::sighting(store, b"no desk", 8, UID, 1),
-        9 => show::sighting(store, b"no antenna", 0, UID, 0),
-        _ => show::word(b""),
-    }
-}
+Sightings up to 64 records, and one more.
+sight many: many 00 3D
+sight locked: uid 00 01 E007000001645E37
+records unmarked: standard 00 22 0001
+sight: uid 00 01 0000000000001000
+table: standard 00 31
+records: standard 00 22 0064
+remove: standard 00 32
+table: standard 00 31
+records advanced: advanced 00 22 0064
+sight later: uid 00 01 0000000000001000
+remove advanced: advanced 00 32
+table: standard 00 31
+records: standard 00 22 0064
 
-// Step k of part p of the day, where there is one.
-fn step(p: u8, k: u8, store: &mut [u8], out: &mut [u8]) {
-    match p {
-        0 => morning::blocks(k, store, out),
-        1 => morning::saves(k, store, out),
-        2 => morning::valid_time(k, store, out),
-        3 => morning::lock_end(k, store, out),
-        4 => full(k, store, out),
-        5 => other_desk(k, store, out),
-        6 => emptied(k, store, out),
-        7 => clock(k, store, out),
-        _ => wrong(k, store, out),
-    }
-}
+The other desk is cut by room, and its records are removed once.
+sight many: many 03 14
+records none: standard 03 22 0000
+records few: standard 03 22 0013
+records: standard 03 22 0064
+remove: standard 03 32
+table: standard 03 31
+remove: standard 03 32
+table: standard 03 31
+records: standard 03 22 0001
 
-fn part(p: u8, store: &mut [u8], out: &mut [u8]) {
-    let mut k: u8 = 0;
-    while k < 13 {
-        step(p, k, store, out);
-        k += 1;
-    }
-}
+Records and locks are emptied.
+sight locked: uid 00 01 0000000000001000
+clear: standard 00 33
+table: standard 00 31
+records: standard 00 22 0001
+sight unlocked: uid 00 01 0000000000001000
+table: standard 00 31
+table other desk: standard 03 31
+system reset: standard 03 64
+remove: standard 03 32
+table: standard 03 31
+sight unlocked: uid 03 01 E007000001645E37
 
-fn day(store: &mut [u8], out: &mut [u8]) {
-    let mut p: u8 = 0;
-    while p < 9 {
-        part(p, store, out);
-        p += 1;
-    }
-}
+The timer rolls over.
+timer: standard 00 86
+set timer wrong: standard 00 85 173BEA60
+set timer: standard 00 85 173BE9FC
+timer: standard 00 86
+tick: tick
+timer: standard 00 86
+timer other desk: advanced 03 86
+
+What is no command, and what is refused.
+unknown: standard 00 84
+data length: standard 03 80
+speed: standard 00 52 00
+speed wrong: standard 00 52 01
+empty frame: octets
+short frame: octets 04006400
+wrong check: octets 0500640000
+no desk: standard 08 64
+no desk: uid 08 01 E007000001645E37
+no antenna: uid 00 00 E007000001645E37
+";
 
 fn main() {
     let mut store = [0u8; 16384];
     let mut out = [0u8; 842];
-    day(&mut store, &mut out);
+    show::play(&DAY, &mut store, &mut out);
 }

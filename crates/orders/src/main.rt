@@ -1,17 +1,38 @@
 // One list of events on two sound stores: one made fresh, and the same octets with the areas in another order. A line an event: what
-// the first answers, and whether the second answers the same, octet for octet.
+// the first answers, and whether the second answers the same, octet for octet. `show` says how a line of a script reads.
 use depot::Answer;
-use frame::Kind;
 use rules::Seen;
+use show::Said;
 
 // A sound store: desk 0 is logged in and holds 20 records and locks, desk 1 one.
-fn made(store: &mut [u8], out: &mut [u8]) {
-    depot::fresh(store);
-    show::ask(store, out, Kind::Standard, 0, 0xA0, b"\x00\x00\x00\x00");
-    show::sight_many(store, 0, 20);
-    show::sight_many(store, 1, 1);
-    depot::tick(store);
-}
+const MADE: [u8; 68] = *b"
+: fresh
+: standard 00 A0 00000000
+: many 00 14
+: many 01 01
+: tick
+";
+
+// The events that both stores are given.
+const EVENTS: [u8; 561] = *b"
+table: standard 00 31
+write: standard 00 81 8C 48454C4C4F204445504F54203134
+read: advanced 00 80 8C
+sight last desk: uid 07 01 0000000000003000
+sight: uid 00 01 0000000000003000
+sight: uid 00 01 0000000000003001
+sight locked: uid 00 01 0000000000003000
+records: standard 00 22 0064
+tick: tick
+remove: standard 00 32
+records: advanced 00 22 0064
+records last desk: advanced 07 22 0064
+timer last desk: standard 07 86
+clear: standard 00 33
+table: standard 00 31
+records other desk: standard 01 22 0001
+system reset: standard 07 64
+table last desk: standard 07 31";
 
 // The octets of a store that was made fresh, with the entries right behind the header and the rows behind them.
 fn moved(to: &mut [u8], from: &[u8]) {
@@ -24,90 +45,32 @@ fn moved(to: &mut [u8], from: &[u8]) {
     show::place(to, 4, &from[4..6]);
 }
 
-// An event of the list that both stores are given.
-fn event(k: u8, store: &mut [u8], out: &mut [u8]) -> Answer {
-    match k {
-        0 => show::ask(store, out, Kind::Standard, 0, 0x31, b""),
-        1 => show::ask(store, out, Kind::Standard, 0, 0x81, b"\x8CHELLO DEPOT 14"),
-        2 => show::ask(store, out, Kind::Advanced, 0, 0x80, b"\x8C"),
-        3 => depot::sighting(store, 7, 0x3000, 1),
-        4 => depot::sighting(store, 0, 0x3000, 1),
-        5 => depot::sighting(store, 0, 0x3001, 1),
-        6 => depot::sighting(store, 0, 0x3000, 1),
-        7 => show::ask(store, out, Kind::Standard, 0, 0x22, b"\x00\x64"),
-        8 => depot::tick(store),
-        9 => show::ask(store, out, Kind::Standard, 0, 0x32, b""),
-        10 => show::ask(store, out, Kind::Advanced, 0, 0x22, b"\x00\x64"),
-        11 => show::ask(store, out, Kind::Advanced, 7, 0x22, b"\x00\x64"),
-        12 => show::ask(store, out, Kind::Standard, 7, 0x86, b""),
-        13 => show::ask(store, out, Kind::Standard, 0, 0x33, b""),
-        14 => show::ask(store, out, Kind::Standard, 0, 0x31, b""),
-        15 => show::ask(store, out, Kind::Standard, 1, 0x22, b"\x00\x01"),
-        16 => show::ask(store, out, Kind::Standard, 7, 0x64, b""),
-        _ => show::ask(store, out, Kind::Standard, 7, 0x31, b""),
+// A number for each answer: no reply has 1000 octets.
+fn code(a: Answer) -> usize {
+    match a {
+        Answer::Reply(n) => n,
+        Answer::Refused(r) => 1000 + r.number() as usize,
+        Answer::Sighted(s) => match s {
+            Seen::Ignored => 2000,
+            Seen::Lost => 2001,
+            Seen::Recorded => 2002,
+        },
+        Answer::Done => 2003,
     }
 }
 
-fn seen(s: Seen) -> u8 {
+// The same of what was said, where it is an answer.
+fn said(s: Said) -> usize {
     match s {
-        Seen::Ignored => 0,
-        Seen::Lost => 1,
-        Seen::Recorded => 2,
+        Said::Answer(a) => code(a),
+        Said::Count(_) => 3000,
+        Said::Nothing => 3001,
     }
 }
 
-// Whether an answer is that number.
-fn refused_as(a: Answer, n: u8) -> bool {
-    match a {
-        Answer::Refused(r) => r.number() == n,
-        Answer::Reply(_) => false,
-        Answer::Sighted(_) => false,
-        Answer::Done => false,
-    }
-}
-
-fn replied_as(a: Answer, n: usize) -> bool {
-    match a {
-        Answer::Refused(_) => false,
-        Answer::Reply(m) => m == n,
-        Answer::Sighted(_) => false,
-        Answer::Done => false,
-    }
-}
-
-fn sighted_as(a: Answer, n: u8) -> bool {
-    match a {
-        Answer::Refused(_) => false,
-        Answer::Reply(_) => false,
-        Answer::Sighted(s) => seen(s) == n,
-        Answer::Done => false,
-    }
-}
-
-fn is_done(a: Answer) -> bool {
-    match a {
-        Answer::Refused(_) => false,
-        Answer::Reply(_) => false,
-        Answer::Sighted(_) => false,
-        Answer::Done => true,
-    }
-}
-
-fn equal(a: Answer, b: Answer) -> bool {
-    match a {
-        Answer::Refused(r) => refused_as(b, r.number()),
-        Answer::Reply(n) => replied_as(b, n),
-        Answer::Sighted(s) => sighted_as(b, seen(s)),
-        Answer::Done => is_done(b),
-    }
-}
-
-// A line: what the first store says to an event, and whether the second says the same.
-fn compared(k: u8, store: &mut [u8], out: &mut [u8], other: &mut [u8], other_out: &mut [u8]) {
-    let a = event(k, store, out);
-    let b = event(k, other, other_out);
-    show::answer(out, a);
-    if !equal(a, b) {
+// Whether two answers, and the octets of the outputs, are the same.
+fn verdict(a: Said, b: Said, out: &[u8], other_out: &[u8]) {
+    if said(a) != said(b) {
         show::word(b" other answer\n");
         return;
     }
@@ -118,25 +81,31 @@ fn compared(k: u8, store: &mut [u8], out: &mut [u8], other: &mut [u8], other_out
     }
 }
 
-fn all_compared(store: &mut [u8], out: &mut [u8], other: &mut [u8], other_out: &mut [u8]) {
-    let mut k: u8 = 0;
-    while k < 18 {
-        compared(k, store, out, other, other_out);
-        k += 1;
-    }
+// A line: what the first store says to an event, and whether the second says the same.
+fn compare(line: &[u8], store: &mut [u8], out: &mut [u8], other: &mut [u8], other_out: &mut [u8]) {
+    let a = show::act(line, store, out);
+    let b = show::act(line, other, other_out);
+    show::say(out, a);
+    verdict(a, b, out, other_out);
 }
 
-fn orders(store: &mut [u8], out: &mut [u8]) {
-    let mut other = [0u8; 16384];
-    let mut other_out = [0u8; 842];
-    made(store, out);
-    moved(&mut other, store);
-    show::place(&mut other_out, 0, out);
-    all_compared(store, out, &mut other, &mut other_out);
+fn events(script: &[u8], store: &mut [u8], out: &mut [u8], other: &mut [u8], other_out: &mut [u8]) {
+    let mut at: usize = 0;
+    while at < script.len() {
+        let start = at + 1;
+        let end = show::until(script, start, b'\n');
+        compare(&script[start..end], store, out, other, other_out);
+        at = end;
+    }
 }
 
 fn main() {
     let mut store = [0u8; 16384];
     let mut out = [0u8; 842];
-    orders(&mut store, &mut out);
+    let mut other = [0u8; 16384];
+    let mut other_out = [0u8; 842];
+    show::play(&MADE, &mut store, &mut out);
+    moved(&mut other, &store);
+    show::place(&mut other_out, 0, &out);
+    events(&EVENTS, &mut store, &mut out, &mut other, &mut other_out);
 }

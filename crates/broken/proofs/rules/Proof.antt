@@ -1,44 +1,16 @@
--- `broken::rules` is safe and ends: the lent buffers keep their lengths. Assumes nothing.
-use borrow.Author.Needs.{needs}
+-- `broken::rules` is safe and ends: a line ends within the script, and the lent buffers keep their lengths. Assumes nothing.
 use mathlib.Core.Path.{_≡_}
 use Prim.Native.Nat.{_≤_, _-_}
 use lib.ListN.{length}
+use borrow.Author.Needs.{needs}
 use Rattle.broken.proofs.rules.Statement.{statement}
 use Rattle.broken.proofs.rules.Tie as tie
 
 abbrev Inv-loop : tie.InvT-loop
-Inv-loop store₀ before₀ out₀ p₀ store before out p =
-    (p ≤ 6) × (length store ≡ length store₀) × (length before ≡ length before₀) × (length out ≡ length out₀)
+Inv-loop script store₀ out₀ at₀ store out at = (at ≤ length script) × (length store ≡ length store₀) × (length out ≡ length out₀)
 
 abbrev μ-loop : tie.MeasureT-loop
-μ-loop store₀ before₀ out₀ p₀ store before out p = 6 - p
-
-loop-holds : tie.Need-loop-holds Inv-loop μ-loop
-loop-holds c = search needs
-
-part-requires : tie.Need-part-requires Inv-loop μ-loop
-part-requires c κs = search needs
-
-add-p : tie.Need-add-p Inv-loop μ-loop
-add-p c = search needs
-
-loop-less : tie.Need-loop-less Inv-loop μ-loop
-loop-less c = search needs
-
-loop-again : tie.Need-loop-again Inv-loop μ-loop
-loop-again c = search needs
-
-same-length : tie.Need-same-length Inv-loop μ-loop
-same-length c = search needs
-
-same-length-2 : tie.Need-same-length-2 Inv-loop μ-loop
-same-length-2 c = search needs
-
-same-length-3 : tie.Need-same-length-3 Inv-loop μ-loop
-same-length-3 c = search needs
-
-returns : tie.Need-returns Inv-loop μ-loop
-returns c = search needs
+μ-loop script store₀ out₀ at₀ store out at = length script - at
 
 pub rules-spec : {M : Type 1} → statement M
 rules-spec =
@@ -46,12 +18,15 @@ rules-spec =
     (tie.spec
     Inv-loop
     μ-loop
-    loop-holds
-    part-requires
-    add-p
-    loop-less
-    loop-again
-    same-length
-    same-length-2
-    same-length-3
-    returns)
+    (λ c. search needs)
+    (λ c. search needs)
+    (λ c κs. search needs)
+    (λ c. search needs)
+    (λ c. search needs)
+    (λ c. search needs)
+    (λ c κs. search needs)
+    (λ c. search needs)
+    (λ c. search needs)
+    (λ c. search needs)
+    (λ c. search needs)
+    (λ c. search needs))
