@@ -41,7 +41,7 @@ use Rattle.host.proofs.BoxReads.{box-steps}
 use Rattle.host.proofs.Answers.{answer-possible}
 use Rattle.host.proofs.Given.{Given, possible-given}
 use Rattle.host.proofs.ReadBack.{reply-read}
-use Rattle.demands.specs.Exchange.{Carriable, ruled, replyTo, taken, toldTo, Heard, Gives}
+use Rattle.demands.specs.Exchange.{Carriable, ruled, replyTo, taken, toldTo, ReadBack, Gives}
 
 module _ (q : Request) (c : Carriable q) (s : List ℕ) (still : sound s ≡ true) (octets : Octets s) where
   legal : DeskLegal (deskAt (view s) (q .desk))
@@ -70,7 +70,7 @@ module _ (q : Request) (c : Carriable q) (s : List ℕ) (still : sound s ≡ tru
         ∙ take-at (replyTo q s) _ (length (replyTo q s)) refl
 
     -- what the maker made is answered, and the reply in the output is read back as it was sent
-    pub host-hears : (a : Answer) (s′ out′ : List ℕ) → Called (frame (requestFrame q) (length out)) s out a s′ out′ → Heard q s a out′
+    pub host-hears : (a : Answer) (s′ out′ : List ℕ) → Called (frame (requestFrame q) (length out)) s out a s′ out′ → ReadBack q s a out′
     host-hears a s′ out′ called =
         let e : Ended (reply (replyTo q s)) (stepOn s (frame (requestFrame q) (length out)) .box) s out a s′ out′ = rw steps at (called .ended) in
         let there = front out′ (e .1) in

@@ -1,1 +1,3 @@
 pub mod HostAndBox
+pub mod Steps
+pub mod Listed

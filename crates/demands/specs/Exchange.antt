@@ -44,7 +44,7 @@ abbrev pub toldTo : Request → List ℕ → Told
 toldTo q s = let r = ruled q s in record { status = r .status; start = shapeOf (q .kind) .lead + 3; len = length (r .sent) }
 
 -- the box replied; what stands at the start of the output is that reply; the host accepts it and reads status and data as they were sent
-pub record Heard (q : Request) (s : List ℕ) (a : Answer) (out′ : List ℕ) : Type 0 where
+pub record ReadBack (q : Request) (s : List ℕ) (a : Answer) (out′ : List ℕ) : Type 0 where
   pub answer-is : a ≡ Reply (length (replyTo q s))
   pub there : taken q s out′ ≡ replyTo q s
   pub read-is : readAs q (taken q s out′) ≡ Sound (toldTo q s)

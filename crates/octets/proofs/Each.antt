@@ -1,12 +1,13 @@
 -- A rule of each element of a list. Assumes nothing.
-use mathlib.Core.Path.{_≡_, refl}
+use mathlib.Core.Path.{_≡_, refl, subst}
 use Prim.Native.Nat.{ℕ, zero, suc, _/_, _^_, _<_}
 use native.Mathlib.Nat.{mod-lt}
-use mathlib.Core.Bool.{Bool, true}
+use mathlib.Core.Bool.{Bool, true, false, cond}
+use mathlib.Core.Option.{none, some, Option·none-ne-some, Option·some-injective}
 use mathlib.Core.List.{List, [], _∷_, _++_, map}
 use lib.ListN.{getD, set, take, drop, replicate}
 use lib.Dec.{lit<}
-use Rattle.octets.specs.Tests.{all}
+use Rattle.octets.specs.Tests.{first, all}
 use Rattle.octets.specs.Parts.{part, put}
 use Rattle.octets.specs.Numbers.{octets, Octets}
 use Rattle.octets.proofs.Tests.{and-left, and-right, and-both}
@@ -14,6 +15,16 @@ use Rattle.octets.proofs.Tests.{and-left, and-right, and-both}
 abbrev pub All : {A : Type 0} → (A → Type 0) → List A → Type 0
 All P [] = Unit {0}
 All P (x ∷ xs) = P x × All P xs
+
+-- tests in order, each with what it gives: what was given follows a rule that all follow
+pub given-each : {A : Type 0} (P : A → Type 0) (ts : List (A × Bool)) (x : A) → All (λ (t : A × Bool). P (t .0)) ts → first ts ≡ some x → P x
+unfolding first
+given-each P [] x p e = absurd (Option·none-ne-some x e)
+given-each P (t ∷ ts) x p e = go (t .1) e (given-each P ts x (p .1))
+  where
+    go : (b : Bool) → cond b (some (t .0)) (first ts) ≡ some x → (first ts ≡ some x → P x) → P x
+    go true q f = subst P (Option·some-injective (t .0) x q) (p .0)
+    go false q f = f q
 
 -- ---- the test of each element, and the rule
 
