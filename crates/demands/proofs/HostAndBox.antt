@@ -1,7 +1,7 @@
 -- Host and box read each other (demand 2's last sentence), and the reader refuses exactly what no sound store makes the box answer.
 -- Assumes nothing.
-use Prim.Native.Nat.{ℕ, _+_, _≤_, _<_}
-use mathlib.Core.Path.{_≡_, refl, sym, ap, _∙_}
+use Prim.Native.Nat.{ℕ, _≤_}
+use mathlib.Core.Path.{_≡_, refl, ap, _∙_}
 use mathlib.Core.Bool.{true}
 use mathlib.Core.List.{List, _∷_}
 use native.Mathlib.Omega.{arith}
@@ -10,21 +10,16 @@ use lib.Seq.{take-at, getD-set-same}
 use borrow.Author.Tests.{ltb-false, not-true}
 use Rattle.octets.specs.Numbers.{Octets}
 use Rattle.octets.proofs.Tests.{and-left}
-use Rattle.octets.specs.Parts.{part, put}
+use Rattle.octets.specs.Parts.{put}
 use Rattle.octets.proofs.Each.{all-set, all-getD}
 use Rattle.octets.proofs.Puts.{put-front}
-use Rattle.frame.specs.declared.Kind.{Kind}
-use Rattle.frame.specs.declared.Kind.the-variants.{Standard, Advanced}
-use Rattle.frame.specs.declared.Way.the-variants.{Reply}
-use Rattle.frame.specs.Shape.{shapeOf, overhead}
-use Rattle.frame.specs.Sealed.{frameOf}
 use Rattle.frame.proofs.Seal.{length-frame}
 use Rattle.rules.specs.Control.{known}
 use Rattle.rules.specs.Desk.{Desk, freshDesk}
 use Rattle.rules.specs.Command.{answered}
 use Rattle.rules.specs.Box.{Box, freshBox, deskAt, noDesk, frame, reply, placed}
-use Rattle.rules.specs.Legal.{boxLegal, deskLegal}
-use Rattle.rules.proofs.Facts.{DeskLegal, BoxLegal, desk-facts, box-facts, box-test}
+use Rattle.rules.specs.Legal.{boxLegal}
+use Rattle.rules.proofs.Facts.{DeskLegal, desk-facts, box-facts, box-test}
 use Rattle.rules.proofs.Legality.{fresh-facts, fresh-desk-legal}
 use Rattle.rules.proofs.Replies.{obey-carried}
 use Rattle.store.specs.Sound.{sound}
@@ -41,7 +36,7 @@ use Rattle.host.proofs.BoxReads.{box-steps}
 use Rattle.host.proofs.Answers.{answer-possible}
 use Rattle.host.proofs.Given.{Given, possible-given}
 use Rattle.host.proofs.ReadBack.{reply-read}
-use Rattle.demands.specs.Exchange.{Carriable, ruled, replyTo, taken, toldTo, ReadBack, Gives}
+use Rattle.demands.specs.Exchange.{Carriable, ruled, replyTo, taken, ReadBack, Gives}
 
 module _ (q : Request) (c : Carriable q) (s : List ℕ) (still : sound s ≡ true) (octets : Octets s) where
   legal : DeskLegal (deskAt (view s) (q .desk))

@@ -1,3 +1,6 @@
 pub mod HostAndBox
 pub mod Steps
 pub mod Listed
+pub mod Isolated
+pub mod Useless
+pub mod Demands

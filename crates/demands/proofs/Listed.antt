@@ -1,17 +1,16 @@
 -- Demand 1: whatever the store, the octets and the numbers, a call gives an answer of its list, and a refused call writes nothing.
 -- Assumes nothing.
-use Prim.Native.Nat.{ℕ, _≤_}
-use mathlib.Core.Path.{_≡_, refl, sym, ap, _∙_}
-use mathlib.Core.Bool.{Bool, true, false, cond, _&&_}
-use mathlib.Core.List.{List, [], _∷_, _++_}
+use Prim.Native.Nat.{ℕ}
+use mathlib.Core.Path.{_≡_, refl, ap, _∙_}
+use mathlib.Core.Bool.{Bool, true, false}
+use mathlib.Core.List.{List}
 use mathlib.Core.Option.{Option, none, some}
 use native.Mathlib.Omega.{arith}
 use lib.ListN.{length}
-use lib.Dec.{leb, eqb}
 use Rattle.octets.specs.Tests.{first}
 use Rattle.octets.proofs.Each.{All, given-each}
 use Rattle.frame.specs.declared.Refusal.{Refusal}
-use Rattle.frame.specs.declared.Refusal.the-variants.{Unsound, SmallBuffer, WrongLength, WrongCheck, NoDesk, OutOfRange}
+use Rattle.frame.specs.declared.Refusal.the-variants.{Unsound}
 use Rattle.frame.specs.Judged.{faults}
 use Rattle.rules.specs.Box.{Box, deskAt, Event, frame, sighting, tick, Answer as RuleAnswer, refused, reply, seen, ok, AtDesk, request, served, sighted, placed, unlessRefused, frameRefusals, sightingRefusals, step}
 use Rattle.store.specs.View.{view}
@@ -19,7 +18,7 @@ use Rattle.store.specs.Sound.{sound}
 use Rattle.depot.specs.declared.Answer.{Answer}
 use Rattle.depot.specs.declared.Answer.the-variants.{Refused, Reply, Sighted, Done}
 use Rattle.depot.specs.Called.{stepOn, Ended, Called}
-use Rattle.demands.specs.Answers.{isReply, isSighted, isDone, refusalOf, ofItsList}
+use Rattle.demands.specs.Answers.{ofItsList}
 
 -- ---- a refused call writes nothing
 

@@ -17,7 +17,6 @@ use Rattle.store.specs.Fresh.{freshStore}
 use Rattle.store.specs.View.{view}
 use Rattle.store.specs.Sound.{sound}
 use Rattle.store.proofs.FreshBox.{fresh-sound, fresh-view}
-use Rattle.depot.specs.declared.Answer.{Answer}
 use Rattle.depot.specs.declared.Answer.the-variants.{Refused, Done}
 use Rattle.depot.specs.Called.{stepOn, Ended, Called, Made}
 use Rattle.demands.specs.History.{eventOf, lentTo, Deed, eventsOf, Ran, History}
@@ -28,8 +27,8 @@ use Rattle.demands.specs.Answers.{Gave, GaveAll}
 keeps-unless : (o : Option Refusal) (box : Box) (n : ℕ) (a : AtDesk) (r : Refusal) → ((x : Refusal) → a .answer ≡ refused x → ⊥)
     → unlessRefused o box (placed box n a) .answer ≡ refused r → unlessRefused o box (placed box n a) .box ≡ box
 unfolding unlessRefused placed
-keeps-unless none box n a r no e = absurd (no r e)
-keeps-unless (some x) box n a r no e = refl
+keeps-unless none box n a r never e = absurd (never r e)
+keeps-unless (some x) box n a r never e = refl
 
 pub refused-keeps : (box : Box) (e : Event) (r : Refusal) → step box e .answer ≡ refused r → step box e .box ≡ box
 unfolding step
@@ -74,7 +73,7 @@ pub record Led (box : Box) (ds : List Deed) (s″ : List ℕ) : Type 0 where
 pub led : (ds : List Deed) (s s″ : List ℕ) → sound s ≡ true → Ran s ds s″ → Led (view s) ds s″
 unfolding Ran run after GaveAll
 led [] s s″ q e = record { still = ap sound e ∙ q; says = ap view e; gave = tt }
-led (d ∷ ds) s s″ q (s′, (c, r)) =
+led (d ∷ ds) s s″ q (s′, c, r) =
     let one : Stepped (step (view s) (eventOf (d .call))) d s′ = stepped d s s′ q c in
     let rest : Led (step (view s) (eventOf (d .call)) .box) ds s″ = subst (λ (b : Box). Led b ds s″) (one .says) (led ds s′ s″ (one .still) r) in
     record { still = rest .still; says = rest .says; gave = (one .gave, rest .gave) }

@@ -8,7 +8,6 @@ use Rattle.octets.specs.Parts.{part}
 use Rattle.octets.proofs.Each.{All, Octet}
 use Rattle.frame.specs.Shape.{shapeOf}
 use Rattle.frame.specs.Sealed.{frameOf}
-use Rattle.rules.specs.Desk.{Desk}
 use Rattle.rules.specs.Command.{Result, answered}
 use Rattle.rules.specs.Box.{deskAt}
 use Rattle.store.specs.View.{view}

@@ -2,15 +2,14 @@
 -- Assumes nothing.
 use Prim.Native.Nat.{ℕ}
 use mathlib.Core.Path.{_≡_}
-use mathlib.Core.Bool.{Bool, true}
+use mathlib.Core.Bool.{true}
 use mathlib.Core.List.{List, [], _∷_, map}
 use lib.ListN.{length}
-use Rattle.octets.specs.Parts.{put}
 use Rattle.octets.specs.Tests.{all}
-use Rattle.rules.specs.Box.{Event, Answer as RuleAnswer, refused, reply, seen, ok}
+use Rattle.rules.specs.Box.{Event}
 use Rattle.rules.specs.Legal.{fitting}
 use Rattle.depot.specs.declared.Answer.{Answer}
-use Rattle.depot.specs.declared.Answer.the-variants.{Refused, Reply, Sighted, Done}
+use Rattle.depot.specs.declared.Answer.the-variants.{Done}
 use Rattle.depot.specs.Called.{Called, Made}
 
 -- what a caller hands over: a frame's octets and an output; a desk, a UID and a mask; nothing

@@ -1,0 +1,65 @@
+-- The user's three demands, each as one theorem over the promises of the calls. Assumes nothing.
+use Prim.Native.Nat.{ℕ, _≤_, _<_}
+use mathlib.Core.Path.{_≡_}
+use mathlib.Core.Bool.{Bool, true, false, cond}
+use mathlib.Core.List.{List}
+use mathlib.Core.Logic.{_⊎_, inl, inr}
+use lib.ListN.{length}
+use lib.Dec.{eqb}
+use Rattle.octets.specs.Numbers.{Octets}
+use Rattle.octets.specs.Tests.{all}
+use Rattle.frame.specs.declared.Refusal.{Refusal}
+use Rattle.frame.specs.declared.Refusal.the-variants.{Unsound}
+use Rattle.rules.specs.Box.{Event, frame, freshBox, deskAt, run, after}
+use Rattle.rules.specs.Events.{history}
+use Rattle.rules.specs.Cases.{cases}
+use Rattle.rules.proofs.Cases.{cases-hold}
+use Rattle.store.specs.Layout.{storeSize}
+use Rattle.store.specs.Fresh.{freshStore}
+use Rattle.store.specs.View.{view}
+use Rattle.store.specs.Sound.{sound}
+use Rattle.depot.specs.declared.Answer.{Answer}
+use Rattle.depot.specs.declared.Answer.the-variants.{Refused, Done}
+use Rattle.depot.specs.Called.{Called, Made}
+use Rattle.host.specs.declared.Request.{Request}
+use Rattle.host.specs.Request.{requestFrame}
+use Rattle.demands.specs.History.{Deed, eventsOf, History}
+use Rattle.demands.specs.Answers.{ofItsList, GaveAll, heardBy}
+use Rattle.demands.specs.Exchange.{Carriable, ReadBack}
+use Rattle.demands.proofs.Steps.{lived}
+use Rattle.demands.proofs.Listed.{refused-writes-nothing, always-listed}
+use Rattle.demands.proofs.Isolated.{isolated}
+use Rattle.demands.proofs.HostAndBox.{host-hears}
+
+-- 1. Nothing harms the box: any octets, any numbers, any store. The answer is of the call's list, and a refused call writes nothing
+pub nothing-harms : (e : Event) (s out : List ℕ) (a : Answer) (s′ out′ : List ℕ) → Called e s out a s′ out′
+    → (ofItsList e a ≡ true) × ((r : Refusal) → a ≡ Refused r → (s′ ≡ s) × (out′ ≡ out))
+nothing-harms e s out a s′ out′ c = (always-listed e s out a s′ out′ c, λ r q. refused-writes-nothing e s out a s′ out′ r c q)
+
+-- a buffer is made fresh, or refused with 1 and kept
+pub fresh-or-kept : (s : List ℕ) (a : Answer) (s′ : List ℕ) → Made s a s′ → ((a ≡ Done) × (s′ ≡ freshStore)) ⊎ ((a ≡ Refused Unsound) × (s′ ≡ s))
+fresh-or-kept s a s′ m = go (eqb (length s) storeSize) (m .answer-is) (m .store-is)
+  where
+    go : (b : Bool) → a ≡ cond b Done (Refused Unsound) → s′ ≡ cond b freshStore s → ((a ≡ Done) × (s′ ≡ freshStore)) ⊎ ((a ≡ Refused Unsound) × (s′ ≡ s))
+    go true p q = inl (p, q)
+    go false p q = inr (p, q)
+
+-- 2. Exactly the paper's answers: over any history the answers, the output octets and what is kept are those of the rules, and the store is sound
+pub papers-answers : (ds : List Deed) (s : List ℕ) → History ds s
+    → (sound s ≡ true) × (view s ≡ after freshBox (eventsOf ds)) × GaveAll (run freshBox (eventsOf ds)) ds
+papers-answers ds s h = let l = lived ds s h in (l .still, l .says, l .gave)
+
+-- and what the host makes is read by the box as that request, what the box replies is read back as that reply
+pub read-each-other : (q : Request) → Carriable q → (s out : List ℕ) → sound s ≡ true → Octets s → 842 ≤ length out
+    → (a : Answer) (s′ out′ : List ℕ) → Called (frame (requestFrame q) (length out)) s out a s′ out′ → ReadBack q s a out′
+read-each-other q c s out still o room a s′ out′ called = host-hears q c s still o out room a s′ out′ called
+
+-- 3. No desk shows in another: two histories, over whatever buffers, whose events for a desk are equal; whatever the other seven do
+pub no-desk-shows : (n : ℕ) → n < 8 → (ds ds′ : List Deed) (s s′ : List ℕ) → History ds s → History ds′ s′
+    → history n (eventsOf ds) ≡ history n (eventsOf ds′)
+    → (heardBy n ds ≡ heardBy n ds′) × (deskAt (view s) n ≡ deskAt (view s′) n)
+no-desk-shows = isolated
+
+-- M1 to M12, of the definitions that the promises cite
+pub edges : all (λ (b : Bool). b) cases ≡ true
+edges = cases-hold
