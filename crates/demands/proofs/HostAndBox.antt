@@ -36,7 +36,7 @@ use Rattle.host.proofs.BoxReads.{box-steps}
 use Rattle.host.proofs.Answers.{answer-possible}
 use Rattle.host.proofs.Given.{Given, possible-given}
 use Rattle.host.proofs.ReadBack.{reply-read}
-use Rattle.demands.specs.Exchange.{Carriable, ruled, replyTo, taken, ReadBack, Gives}
+use Rattle.demands.specs.Exchange.{Carriable, ruledBy, replyTo, taken, ReadBack, Gives}
 
 module _ (q : Request) (c : Carriable q) (s : List ℕ) (still : sound s ≡ true) (octets : Octets s) where
   legal : DeskLegal (deskAt (view s) (q .desk))
@@ -44,13 +44,13 @@ module _ (q : Request) (c : Carriable q) (s : List ℕ) (still : sound s ≡ tru
   legal = all-getD DeskLegal (view s) (q .desk) freshDesk (box-facts (view s) (view-legal s still octets) .each) fresh-desk-legal
 
   -- every answer of a sound store is a possible one
-  pub only-possible : possible q (ruled q s .status) (length (ruled q s .sent)) ≡ true
+  pub only-possible : possible q (ruledBy q s .status) (length (ruledBy q s .sent)) ≡ true
   only-possible = answer-possible q (deskAt (view s) (q .desk)) legal (c .bytes) (c .desk) (c .fields)
 
   short : length (replyTo q s) ≤ 842
   unfolding answered
   short =
-      let r = ruled q s in
+      let r = ruledBy q s in
       let small = obey-carried (known (controlOf (q .ask))) (q .kind) (deskAt (view s) (q .desk)) (dataFor q) legal .small in
       omega (arith, length-frame (q .kind) (q .desk) (controlOf (q .ask)) (r .status ∷ r .sent), longest-fits (q .kind))
 

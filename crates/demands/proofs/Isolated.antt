@@ -117,6 +117,7 @@ pub isolated : (n : ℕ) → n < 8 → (ds ds′ : List Deed) (s s′ : List ℕ
 isolated n low ds ds′ s s′ h h′ same =
     let one : Led freshBox ds s = lived ds s h in
     let two : Led freshBox ds′ s′ = lived ds′ s′ h′ in
-    let both = isolation n low (eventsOf ds) (eventsOf ds′) same in
-    (heard-of-desk n ds s h ∙ ap (map told) (both .0) ∙ sym (heard-of-desk n ds′ s′ h′),
-      ap (λ (b : Box). deskAt b n) (one .says) ∙ both .1 ∙ sym (ap (λ (b : Box). deskAt b n) (two .says)))
+    let both = isolation n low (eventsOf ds) (eventsOf ds′) same in (
+      heard-of-desk n ds s h ∙ ap (map told) (both .0) ∙ sym (heard-of-desk n ds′ s′ h′),
+      ap (λ (b : Box). deskAt b n) (one .says) ∙ both .1 ∙ sym (ap (λ (b : Box). deskAt b n) (two .says)),
+    )

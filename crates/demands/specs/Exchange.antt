@@ -27,12 +27,12 @@ pub record Carriable (q : Request) : Type 0 where
   pub fields : fieldsHold (q .ask) ≡ true
 
 -- what the rules have the desk answer that a store says
-abbrev pub ruled : Request → List ℕ → Result
-ruled q s = answered (q .kind) (deskAt (view s) (q .desk)) (controlOf (q .ask)) (dataFor q)
+abbrev pub ruledBy : Request → List ℕ → Result
+ruledBy q s = answered (q .kind) (deskAt (view s) (q .desk)) (controlOf (q .ask)) (dataFor q)
 
 -- the reply that carries it
 abbrev pub replyTo : Request → List ℕ → List ℕ
-replyTo q s = let r = ruled q s in frameOf (q .kind) (q .desk) (controlOf (q .ask)) (r .status ∷ r .sent)
+replyTo q s = let r = ruledBy q s in frameOf (q .kind) (q .desk) (controlOf (q .ask)) (r .status ∷ r .sent)
 
 -- the first so many octets of the output, as the host takes them
 abbrev pub taken : Request → List ℕ → List ℕ → List ℕ
@@ -40,19 +40,19 @@ taken q s out = take (length (replyTo q s)) out
 
 -- what the host reads of it: the status that the rules give, and where the data lie
 abbrev pub toldTo : Request → List ℕ → Told
-toldTo q s = let r = ruled q s in record { status = r .status; start = shapeOf (q .kind) .lead + 3; len = length (r .sent) }
+toldTo q s = let r = ruledBy q s in record { status = r .status; start = shapeOf (q .kind) .lead + 3; len = length (r .sent) }
 
 -- the box replied; what stands at the start of the output is that reply; the host accepts it and reads status and data as they were sent
 pub record ReadBack (q : Request) (s : List ℕ) (a : Answer) (out′ : List ℕ) : Type 0 where
   pub answer-is : a ≡ Reply (length (replyTo q s))
   pub there : taken q s out′ ≡ replyTo q s
   pub read-is : readAs q (taken q s out′) ≡ Sound (toldTo q s)
-  pub data-is : part (toldTo q s .start) (toldTo q s .len) (taken q s out′) ≡ ruled q s .sent
+  pub data-is : part (toldTo q s .start) (toldTo q s .len) (taken q s out′) ≡ ruledBy q s .sent
 
 -- a sound store that makes the box answer the request with this status and data length
 pub record Gives (q : Request) (status len : ℕ) : Type 0 where
   pub store : List ℕ
   pub octets : All Octet store
   pub still : sound store ≡ true
-  pub status-is : ruled q store .status ≡ status
-  pub len-is : length (ruled q store .sent) ≡ len
+  pub status-is : ruledBy q store .status ≡ status
+  pub len-is : length (ruledBy q store .sent) ≡ len

@@ -25,7 +25,7 @@ use Rattle.rules.specs.Box.{noDesk}
 use Rattle.host.specs.declared.Ask.{Ask}
 use Rattle.host.specs.declared.Request.{Request as Asked}
 use Rattle.host.specs.Request.{controlOf, bodyOf, dataFor, requestFrame, inRange}
-use Rattle.host.specs.Maker.{makerRefusals, Made}
+use Rattle.host.specs.Maker.{makerRefusals, Requested}
 use Rattle.host.proofs.Asked.{sizeOf, body-size}
 use Rattle.host.proofs.BoxReads.{request-fits}
 
@@ -57,21 +57,21 @@ no-room q room size e =
     omega (arith, frame-size q)
 
 module _ (q : Asked) (out : List ℕ) where
-  pub refused-desk : 7 < q .desk → Made q out (written.Refused NoDesk) out
+  pub refused-desk : 7 < q .desk → Requested q out (written.Refused NoDesk) out
   unfolding makerRefusals first noDesk
   refused-desk h = record { outcome = rw (lt-ltb 7 (q .desk) h) (refl, refl) }
 
   module _ (low : q .desk ≤ 7) where
-    pub refused-range : inRange q ≡ false → Made q out (written.Refused OutOfRange) out
+    pub refused-range : inRange q ≡ false → Requested q out (written.Refused OutOfRange) out
     unfolding makerRefusals first noDesk
     refused-range e = record { outcome = rw (le-ltb 7 (q .desk) low, e) (refl, refl) }
 
     module _ (range : inRange q ≡ true) where
-      pub refused-room : length out < length (requestFrame q) → Made q out (written.Refused NoRoom) out
+      pub refused-room : length out < length (requestFrame q) → Requested q out (written.Refused NoRoom) out
       unfolding makerRefusals first noDesk
       refused-room h = record { outcome = rw (le-ltb 7 (q .desk) low, range, lt-ltb _ _ h) (refl, refl) }
 
-      pub made : (n : ℕ) (out′ : List ℕ) → length (requestFrame q) ≤ length out → n ≡ length (requestFrame q) → out′ ≡ put 0 (requestFrame q) out → Made q out (written.Octets n) out′
+      pub made : (n : ℕ) (out′ : List ℕ) → length (requestFrame q) ≤ length out → n ≡ length (requestFrame q) → out′ ≡ put 0 (requestFrame q) out → Requested q out (written.Octets n) out′
       unfolding makerRefusals first noDesk
       made n out′ h e o = record { outcome = rw (le-ltb 7 (q .desk) low, range, le-ltb _ _ h) (ap written.Octets e, o) }
 
@@ -117,7 +117,7 @@ module _ (q : Asked) (out ys : List ℕ) (at len ctl : ℕ) (low : q .desk ≤ 7
       ∙ ap (λ (i : ℕ). put i (dataFor q) out) (add-zero at ∙ there)
 
   pub framed : (n : ℕ) (out″ : List ℕ) → sealedAs Request (q .kind) len written-out ≡ Octets n → out″ ≡ requestIn (q .kind) (q .desk) ctl len written-out
-      → Made q out (written.Octets n) out″
+      → Requested q out (written.Octets n) out″
   unfolding requestFrame
   framed n out″ e o =
       let size = request-size (q .kind) (q .desk) (controlOf (q .ask)) (dataFor q) out written-out roomy put-there in

@@ -18,5 +18,5 @@ unfoldable pub makerRefusals : Request → ℕ → List (Refusal × Bool)
 makerRefusals q room = (NoDesk, noDesk (q .desk)) ∷ (OutOfRange, not (inRange q)) ∷ (NoRoom, ltb room (length (requestFrame q))) ∷ []
 
 -- refused and nothing written; or the frame at the start of the output, and the octets after it stay
-abbrev pub Made : Request → List ℕ → Written → List ℕ → Type 0
-Made q out a out′ = Wrote (first (makerRefusals q (length out))) (requestFrame q) out a out′
+abbrev pub Requested : Request → List ℕ → Written → List ℕ → Type 0
+Requested q out a out′ = Wrote (first (makerRefusals q (length out))) (requestFrame q) out a out′

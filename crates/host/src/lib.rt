@@ -7,8 +7,8 @@ ghost use lib.ListN.{length};
 ghost use Rattle.host.specs.Request.{controlOf, bodyOf};
 
 pub mod maker;
-pub mod possible;
-pub mod range;
+mod possible;
+mod range;
 pub mod reader;
 pub mod typed;
 

@@ -18,7 +18,7 @@ ghost use Rattle.frame.specs.declared.Way.{Way};
 ghost use Rattle.frame.specs.Sealed.{fitsIn};
 ghost use Rattle.rules.specs.Box.{noDesk};
 ghost use Rattle.host.specs.Request.{fieldsHold, bodyOf, dataFor, inRange};
-ghost use Rattle.host.specs.Maker.{Made};
+ghost use Rattle.host.specs.Maker.{Requested};
 
 // How many octets of data a request has.
 fn size_of(ask: Ask, bytes: [u8; 14]) -> usize
@@ -116,7 +116,7 @@ fn put_data(out: &mut [u8], ask: Ask, bytes: [u8; 14])
 // Makes the frame where it is known to fit.
 fn put_frame(q: Request, out: &mut [u8], len: usize) -> Written
     requires { ⌜ (q .desk ≤ 7) × (inRange q ≡ true) × (len ≡ length (dataFor q)) × (fitsIn Way.Request (q .kind) len (length (now out)) ≡ true) ⌝ }
-    ensures { λ r. ⌜ Made q (now (out .entry)) r (now (out .exit)) ⌝ }
+    ensures { λ r. ⌜ Requested q (now (out .entry)) r (now (out .exit)) ⌝ }
 {
     let kind = q.kind;
     let ask = q.ask;
@@ -131,7 +131,7 @@ fn put_frame(q: Request, out: &mut [u8], len: usize) -> Written
 
 // Makes a request: the frame stands at the start of the output, and the octets after it stay.
 pub fn make(q: Request, out: &mut [u8]) -> Written
-    ensures { λ r. ⌜ Made q (now (out .entry)) r (now (out .exit)) ⌝ }
+    ensures { λ r. ⌜ Requested q (now (out .entry)) r (now (out .exit)) ⌝ }
 {
     if q.desk > 7 {
         return Written::Refused(Refusal::NoDesk);
