@@ -25,7 +25,8 @@ use Rattle.rules.specs.Box.{Event, frame, sighting, tick, request, served, sigh
 use Rattle.rules.proofs.Replies.{obey-carried}
 use Rattle.store.specs.Sound.{sound}
 use Rattle.desk.specs.declared.Reply.{Reply as DeskReply}
-use Rattle.desk.specs.Obeyed.{kept, Obeyed, Sighted as DeskSighted, Ticked}
+use Rattle.desk.specs.Obeyed.{kept, Obeyed}
+use Rattle.sightings.specs.Sighted.{Sighted as DeskSighted, Ticked}
 use Rattle.desk.proofs.Doing.{kept-legal}
 use Rattle.rules.specs.declared.Seen.{Seen}
 use Rattle.depot.specs.declared.Answer.the-variants.{Refused, Reply as Replied, Sighted, Done}

@@ -93,7 +93,7 @@ pub fn sighting(store: &mut [u8], desk: u64, uid: u64, mask: u8) -> Answer
     if mask == 0 {
         return Answer::Refused(Refusal::OutOfRange);
     }
-    Answer::Sighted(desk::sightings::sight(store, desk as usize, uid, mask))
+    Answer::Sighted(sightings::sight(store, desk as usize, uid, mask))
 }
 
 // A tick of 100 ms passes for all desks.
@@ -103,6 +103,6 @@ pub fn tick(store: &mut [u8]) -> Answer
     if !store::sound::test(store) {
         return Answer::Refused(Refusal::Unsound);
     }
-    desk::sightings::tick(store);
+    sightings::tick(store);
     Answer::Done
 }

@@ -6,13 +6,12 @@ use mathlib.Core.List.{List}
 use lib.ListN.{length, set}
 use lib.Seq.{set-getD, set-set}
 use Rattle.octets.specs.Parts.{put}
-use Rattle.octets.specs.Numbers.{number, Octets}
+use Rattle.octets.specs.Numbers.{Octets}
 use Rattle.table.specs.Entries.{desks, entryCount, entries, recordsOf}
 use Rattle.rules.specs.Desk.{Desk, freshDesk}
 use Rattle.rules.specs.Box.{deskAt}
 use Rattle.rules.proofs.Facts.{DeskLegal}
 use Rattle.store.specs.Layout.{rowWidth, sizeOf, header, startOf, rowAt, rowOf, recounted}
-use Rattle.store.specs.Rows.{field}
 use Rattle.store.specs.View.{deskIn, inUse, view}
 use Rattle.store.specs.Sound.{sound, rowSound, tableSound}
 use Rattle.store.proofs.Changes.{Sound, sound-facts, sound-test}

@@ -5,10 +5,6 @@ pub mod Told
 pub mod NamedBlocks
 pub mod Answers
 pub mod Serves
-pub mod Saying
-pub mod Ticks
-pub mod NewRecord
-pub mod Sights
 pub mod LentTable
 pub mod Removes
 pub mod Empties

@@ -2,7 +2,7 @@
 use Prim.Native.Nat.{ℕ, _+_}
 use mathlib.Core.Path.{_≡_}
 use mathlib.Core.Bool.{true}
-use mathlib.Core.List.{List, map}
+use mathlib.Core.List.{List}
 use lib.ListN.{length, set}
 use Rattle.octets.specs.Tests.{first}
 use Rattle.octets.specs.Parts.{put}
@@ -10,10 +10,8 @@ use Rattle.frame.specs.declared.Kind.{Kind}
 use Rattle.frame.specs.Shape.{shapeOf}
 use Rattle.rules.specs.declared.Command.{Command}
 use Rattle.rules.specs.declared.Command.the-variants.{Baud, Reset, SystemReset, ReadBlock, WriteBlock, SaveBlocks, RestoreBlocks, SetTimer, SendTimer, Login, ReadRecords, SendTable, RemoveRecords, ClearRecords}
-use Rattle.rules.specs.declared.Seen.{Seen}
 use Rattle.rules.specs.Desk.{Desk}
 use Rattle.rules.specs.Command.{Result, ownTests, effect, unless}
-use Rattle.rules.specs.Sighting.{seenAs, afterSeen, ticked}
 use Rattle.rules.specs.Box.{deskAt}
 use Rattle.store.specs.View.{view}
 use Rattle.store.specs.Sound.{sound}
@@ -49,15 +47,6 @@ dataAt kind = shapeOf kind .lead + 3
 pub record Obeyed (d : ℕ) (kind : Kind) (res : Result) (r : Reply) (s s′ out out′ : List ℕ) : Type 0 where
   pub done : Done d res r s s′
   pub out-is : out′ ≡ put (dataAt kind) (res .sent) out
-
-pub record Sighted (d uid mask : ℕ) (seen : Seen) (s s′ : List ℕ) : Type 0 where
-  pub seen-is : seen ≡ seenAs uid (kept d s)
-  pub says : Says d (afterSeen seen uid mask (kept d s)) s s′
-
--- every desk is ticked
-pub record Ticked (s s′ : List ℕ) : Type 0 where
-  pub still : sound s′ ≡ true
-  pub view-is : view s′ ≡ map ticked (view s)
 
 -- the data length that the rows list for a command
 abbrev pub dataSize : Command → ℕ

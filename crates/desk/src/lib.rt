@@ -1,4 +1,4 @@
-// The commands, sightings and ticks at one desk of a sound store.
+// The commands at one desk of a sound store.
 use frame::Kind;
 ghost use mathlib.Core.Path.{_≡_};
 ghost use Prim.Native.Nat.{_≤_};
@@ -9,7 +9,6 @@ pub mod config;
 pub mod control;
 pub mod records;
 pub mod serve;
-pub mod sightings;
 
 // A reply's status, and how many octets of data stand at their place in the output.
 pub struct Reply {

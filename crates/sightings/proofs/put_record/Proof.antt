@@ -1,13 +1,13 @@
--- `desk::sightings::put_record` meets its contract. Assumes nothing.
+-- `sightings::put_record` meets its contract. Assumes nothing.
 use mathlib.Core.Path.{_∙_}
 use native.Mathlib.Omega.{arith}
 use lib.Dec.{lit<}
 use lib.ListN.{length-take, length-drop}
 use Rattle.desk.proofs.LentRow.{sound-size}
-use Rattle.desk.proofs.NewRecord.{entries-within, appended-size, record-back, has-room}
+use Rattle.sightings.proofs.NewRecord.{entries-within, appended-size, record-back, has-room}
 use borrow.Author.Needs.{needs}
-use Rattle.desk.proofs.sightings.put_record.Statement.{statement}
-use Rattle.desk.proofs.sightings.put_record.Tie as tie
+use Rattle.sightings.proofs.put_record.Statement.{statement}
+use Rattle.sightings.proofs.put_record.Tie as tie
 
 start-requires : tie.Need-start-requires
 start-requires c κs = (lit< tt, omega (arith, sound-size _ (c .before .before .pre .0)))

@@ -1,14 +1,14 @@
--- `desk::sightings::is_locked` meets its contract. Assumes nothing.
+-- `sightings::is_locked` meets its contract. Assumes nothing.
 use mathlib.Core.Path.{_≡_, sym, ap, _∙_}
 use native.Mathlib.Omega.{arith}
 use lib.ListN.{length-take, length-drop}
 use Rattle.locks.specs.Locks.{isFound, locked}
 use Rattle.desk.specs.Obeyed.{kept}
 use Rattle.desk.proofs.LentRow.{sound-size, lent-inside}
-use Rattle.desk.proofs.Sights.{few-there, locks-lent}
+use Rattle.sightings.proofs.Sights.{few-there, locks-lent}
 use borrow.Author.Needs.{needs}
-use Rattle.desk.proofs.sightings.is_locked.Statement.{statement}
-use Rattle.desk.proofs.sightings.is_locked.Tie as tie
+use Rattle.sightings.proofs.is_locked.Statement.{statement}
+use Rattle.sightings.proofs.is_locked.Tie as tie
 
 row-at-requires : tie.Need-row-at-requires
 row-at-requires c κs = (c .before .pre .1, omega (arith, sound-size _ (c .before .pre .0)))

@@ -1,4 +1,4 @@
--- `desk::sightings::sight` meets its contract: one way for each outcome. Assumes nothing.
+-- `sightings::sight` meets its contract: one way for each outcome. Assumes nothing.
 use mathlib.Core.Path.{_≡_, sym, ap, _∙_}
 use mathlib.Core.Bool.{false}
 use mathlib.Core.List.{List}
@@ -9,14 +9,14 @@ use Rattle.locks.specs.Locks.{locked}
 use Rattle.rules.specs.Records.{recordOf}
 use Rattle.store.specs.Layout.{rowAt}
 use Rattle.rows.specs.Row.{markedRow, lockedRow}
-use Rattle.desk.specs.Removal.{recordedIn}
+use Rattle.sightings.specs.Sighted.{recordedIn}
 use Rattle.desk.specs.Obeyed.{kept}
 use Rattle.desk.proofs.Doing.{row-size}
 use Rattle.desk.proofs.LentRow.{sound-size, few-locks, lent-inside, lent-row, row-back}
-use Rattle.desk.proofs.Sights.{timer-read, marked-size, locked-size, WithRecord, ignored, lost, recorded}
+use Rattle.sightings.proofs.Sights.{timer-read, marked-size, locked-size, WithRecord, ignored, lost, recorded}
 use borrow.Author.Needs.{needs}
-use Rattle.desk.proofs.sightings.sight.Statement.{statement}
-use Rattle.desk.proofs.sightings.sight.Tie as tie
+use Rattle.sightings.proofs.sight.Statement.{statement}
+use Rattle.sightings.proofs.sight.Tie as tie
 
 -- ---- ignored
 

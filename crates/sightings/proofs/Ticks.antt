@@ -22,12 +22,13 @@ use Rattle.store.specs.View.{inUse, view}
 use Rattle.store.specs.Sound.{sound}
 use Rattle.locks.specs.Locks.{sweptOf}
 use Rattle.rows.specs.Row.{locksOf, tickedRow, steppedRow, timerRow, sweptRow}
-use Rattle.desk.specs.Obeyed.{kept, Says, Ticked}
+use Rattle.desk.specs.Obeyed.{kept, Says}
+use Rattle.sightings.specs.Sighted.{Ticked}
 use Rattle.desk.proofs.Doing.{kept-is, row-size, row-flags, kept-legal, row-says}
 use Rattle.rows.proofs.Flagged.{Flags, timer-flags, locks-flags}
 use Rattle.rows.proofs.Meaning.{ticked-means}
 use Rattle.desk.proofs.LentRow.{few-locks}
-use Rattle.desk.proofs.Saying.{view-length}
+use Rattle.sightings.proofs.Saying.{view-length}
 
 -- ---- a row
 

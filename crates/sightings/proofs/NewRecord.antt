@@ -27,9 +27,9 @@ use Rattle.store.specs.Sound.{sound, tableSound}
 use Rattle.store.proofs.LentAreas.{areas-at, areas-header}
 use Rattle.store.proofs.Places.{start-counted}
 use Rattle.store.proofs.Changes.{Sound, sound-facts, area-length, header-kept, header-counted}
-use Rattle.desk.specs.Removal.{recordedIn}
+use Rattle.sightings.specs.Sighted.{recordedIn}
 use Rattle.desk.specs.Obeyed.{kept, Says}
 use Rattle.desk.proofs.Doing.{kept-is, row-size, kept-legal, entries-say}
 use Rattle.rows.proofs.Meaning.{recorded-means}
 
 -- the entries in use lie in front of the third area

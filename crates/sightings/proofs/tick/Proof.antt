@@ -1,13 +1,13 @@
--- `desk::sightings::tick` meets its contract: after d turns the first d desks are ticked. Assumes nothing.
+-- `sightings::tick` meets its contract: after d turns the first d desks are ticked. Assumes nothing.
 use Prim.Native.Nat.{_-_, _≤_}
 use mathlib.Core.Path.{sym, _∙_}
 use native.Mathlib.Omega.{arith}
 use Rattle.table.specs.Entries.{desks}
 use Rattle.desk.proofs.LentRow.{sound-size}
-use Rattle.desk.proofs.Ticks.{TickedTo, ticked-none, ticked-more, ticked-all}
+use Rattle.sightings.proofs.Ticks.{TickedTo, ticked-none, ticked-more, ticked-all}
 use borrow.Author.Needs.{needs}
-use Rattle.desk.proofs.sightings.tick.Statement.{statement}
-use Rattle.desk.proofs.sightings.tick.Tie as tie
+use Rattle.sightings.proofs.tick.Statement.{statement}
+use Rattle.sightings.proofs.tick.Tie as tie
 
 abbrev Inv-loop : tie.InvT-loop
 Inv-loop s₀ d₀ s d = (d ≤ desks) × TickedTo d s₀ s

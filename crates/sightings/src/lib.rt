@@ -1,5 +1,5 @@
 // A sighting at a desk, and a tick of all desks.
-use crate::records::held;
+use desk::records::held;
 use locks::Found;
 use rules::Seen;
 use timer::Timer;
@@ -14,8 +14,8 @@ ghost use Rattle.rules.specs.Records.{recordOf};
 ghost use Rattle.rules.specs.Sighting.{ticked};
 ghost use Rattle.store.specs.View.{inUse, view};
 ghost use Rattle.store.specs.Sound.{sound};
-ghost use Rattle.desk.specs.Obeyed.{kept, Says, Sighted, Ticked};
-ghost use Rattle.desk.specs.Removal.{recordedIn};
+ghost use Rattle.desk.specs.Obeyed.{kept, Says};
+ghost use Rattle.sightings.specs.Sighted.{Sighted, Ticked, recordedIn};
 
 // UID 8, timer 4, antenna mask 1.
 fn record_of(uid: u64, t: Timer, mask: u8) -> [u8; 13]

@@ -30,14 +30,14 @@ use Rattle.store.specs.Rows.{field, fields}
 use Rattle.store.specs.View.{deskOf, inUse}
 use Rattle.store.specs.Sound.{sound}
 use Rattle.rows.specs.Row.{markedRow, locksOf, lockedRow}
-use Rattle.desk.specs.Removal.{recordedIn}
-use Rattle.desk.specs.Obeyed.{kept, Says, Sighted}
+use Rattle.sightings.specs.Sighted.{recordedIn, Sighted}
+use Rattle.desk.specs.Obeyed.{kept, Says}
 use Rattle.desk.proofs.Doing.{kept-is, row-size, row-flags, kept-legal, unchanged, row-says, says-then}
 use Rattle.rows.proofs.Flagged.{Flags, marked-flags, locks-flags}
 use Rattle.rows.proofs.Meaning.{marked-means, locked-means}
 use Rattle.desk.proofs.LentRow.{few-locks}
-use Rattle.desk.proofs.Saying.{kept-now}
-use Rattle.desk.proofs.NewRecord.{held-is, recorded-says, same-place}
+use Rattle.sightings.proofs.Saying.{kept-now}
+use Rattle.sightings.proofs.NewRecord.{held-is, recorded-says, same-place}
 
 -- ---- what is read of the row
 

@@ -1,13 +1,13 @@
--- `desk::sightings::tick_desk` meets its contract. Assumes nothing.
+-- `sightings::tick_desk` meets its contract. Assumes nothing.
 use mathlib.Core.Path.{_∙_}
 use native.Mathlib.Omega.{arith}
 use Rattle.rows.specs.Row.{tickedRow}
 use Rattle.desk.proofs.Doing.{row-size}
 use Rattle.desk.proofs.LentRow.{sound-size, few-locks, lent-inside, lent-row, row-back}
-use Rattle.desk.proofs.Ticks.{ticked-size, row-ticked}
+use Rattle.sightings.proofs.Ticks.{ticked-size, row-ticked}
 use borrow.Author.Needs.{needs}
-use Rattle.desk.proofs.sightings.tick_desk.Statement.{statement}
-use Rattle.desk.proofs.sightings.tick_desk.Tie as tie
+use Rattle.sightings.proofs.tick_desk.Statement.{statement}
+use Rattle.sightings.proofs.tick_desk.Tie as tie
 
 row-at-requires : tie.Need-row-at-requires
 row-at-requires c κs = (c .before .before .pre .1, omega (arith, sound-size _ (c .before .before .pre .0)))

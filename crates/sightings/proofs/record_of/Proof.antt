@@ -1,10 +1,10 @@
--- `desk::sightings::record_of` meets its contract. Assumes nothing.
+-- `sightings::record_of` meets its contract. Assumes nothing.
 use Rattle.octets.specs.Numbers.{octets}
 use Rattle.timer.specs.Clock.{timerOctets}
 use Rattle.rules.specs.Records.{recordOf}
 use borrow.Author.Needs.{needs}
-use Rattle.desk.proofs.sightings.record_of.Statement.{statement}
-use Rattle.desk.proofs.sightings.record_of.Tie as tie
+use Rattle.sightings.proofs.record_of.Statement.{statement}
+use Rattle.sightings.proofs.record_of.Tie as tie
 
 returns : tie.Need-returns
 unfolding recordOf timerOctets octets

@@ -1,0 +1,4 @@
+pub mod Saying
+pub mod NewRecord
+pub mod Sights
+pub mod Ticks
