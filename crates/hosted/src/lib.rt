@@ -1,6 +1,7 @@
 // What the programs over the host side share: scripts that drive it, with the box or by itself, and printing what it answers.
 //
-// A script is one of `show`, with these steps beside. Numbers are words in hex.
+// A script is one of `show`, with these steps beside. Numbers are words in hex; the bytes of a block are one word, and those that it
+// leaves out are zero.
 //     standard DESK CONTROL VALUES      a request of that kind is made, handed to the box, and its reply read; so is `advanced`
 //     lines KIND DESK 22 K              block 7 and records are read so, and their lines written
 //     room ROOM KIND DESK CONTROL ..    a request is made in a buffer with that room
@@ -11,18 +12,17 @@
 use read::rest;
 use read::told_of;
 
+mod calls;
 mod edge;
 mod read;
 mod tell;
-mod visit;
 
 // Does what a step of the host side says.
 fn act(letter: u8, text: &[u8], store: &mut [u8], out: &mut [u8]) {
     match letter {
-        b'l' => visit::lines(rest(text, 2), store, out),
+        b'l' => calls::lines(rest(text, 2), store, out),
         b'h' => edge::hear(rest(text, 2)),
-        b's' => visit::call(rest(text, 1), store, out),
-        b'a' => visit::call(rest(text, 1), store, out),
+        b's' | b'a' => calls::call(rest(text, 1), store, out),
         _ => edge::lend(letter, rest(text, 2)),
     }
 }

@@ -105,7 +105,7 @@ M12: lines standard 1 22 1
 tick: tick
 sight: uid 01 02 FEDCBA9876543210
 two lines: lines advanced 1 22 2
-write line: standard 1 81 7 0210000200000000444553540040
+write line: standard 1 81 7 02100002000000005B68645D0040
 two lines: lines standard 1 22 FFFF
 remove: standard 1 32
 records none: standard 1 22 1
