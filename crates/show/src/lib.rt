@@ -48,7 +48,7 @@ fn poke(s: &mut [u8], at: usize, v: u8) {
 }
 
 // The octet at a place, where there is one.
-fn peek(s: &[u8], at: usize) -> u8 {
+pub fn peek(s: &[u8], at: usize) -> u8 {
     if at < s.len() {
         return s[at];
     }
@@ -69,7 +69,7 @@ pub fn word(text: &[u8]) {
     io::write_all(STDOUT_FILENO, text);
 }
 
-fn number(n: u64) {
+pub fn number(n: u64) {
     io::print_decimal(STDOUT_FILENO, n);
 }
 
@@ -80,7 +80,7 @@ fn glyph(b: u8) {
     word(&[c]);
 }
 
-fn hex(s: &[u8]) {
+pub fn hex(s: &[u8]) {
     let mut i: usize = 0;
     while i < s.len() {
         let b = s[i];
@@ -152,7 +152,7 @@ pub fn until(s: &[u8], from: usize, mark: u8) -> usize
 }
 
 // The number of a hex digit; 16 for what is none.
-fn digit(c: u8) -> u8
+pub fn digit(c: u8) -> u8
     ensures { λ r. ⌜ r ≤ 16 ⌝ }
 {
     match c {
@@ -163,7 +163,7 @@ fn digit(c: u8) -> u8
 }
 
 // Writes the octets that the digits of a text make, as far as there is room, and says how many they are.
-fn unhex(text: &[u8], to: &mut [u8]) -> usize {
+pub fn unhex(text: &[u8], to: &mut [u8]) -> usize {
     let mut n: usize = 0;
     let mut i: usize = 0;
     while i < text.len() {
