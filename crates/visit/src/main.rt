@@ -1,7 +1,7 @@
 // The host side run against the box: each command in both frame kinds, and lines at the end. A line a step: the request, the reply,
 // the status that the reader tells, and what the data say. `hosted` says how a line of the script reads.
 
-const VISIT: [u8; 3013] = *b"
+const VISIT: [u8; 3069] = *b"
 Before login, in standard frames.
 fresh: fresh
 baud: standard 0 52 0
@@ -54,6 +54,8 @@ table: standard 0 31
 sight many: many 00 40
 sight lost: uid 00 01 0000000000001000
 records marked: standard 0 22 1
+remove: standard 0 32
+records unmarked: standard 0 22 1
 system reset: standard 0 64
 timer: standard 0 86
 table: standard 0 31
