@@ -88,6 +88,18 @@ pub fn overflow(gen: &mut Gen) {
     any_read(gen, desk);
 }
 
+/// A mark that falls at 0x32, 0x33 or 0x64 although nothing was read.
+pub fn unread_overflow(gen: &mut Gen) {
+    let desk = gen.any_desk();
+    gen.request(desk, 0x32, &[]);
+    fill(gen, desk);
+    gen.sight_new(desk, 1);
+    gen.request(desk, gen.random.pick(&[0x32, 0x32, 0x33, 0x64]), &[]);
+    any_read(gen, desk);
+    fill(gen, desk);
+    any_read(gen, desk);
+}
+
 /// More than 64 locks: the oldest gives way.
 pub fn many_locks(gen: &mut Gen) {
     let desk = gen.any_desk();
@@ -167,8 +179,11 @@ pub fn reading(gen: &mut Gen) {
     }
     for _ in 0..1 + gen.random.below(3) {
         gen.request(desk, 0x32, &[]);
-        gen.request(desk, 0x31, &[]);
+        if gen.random.one_in(2) {
+            gen.request(desk, 0x31, &[]);
+        }
     }
+    gen.request(desk, 0x31, &[]);
     any_read(gen, desk);
 }
 

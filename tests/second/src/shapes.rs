@@ -190,7 +190,7 @@ pub fn malformed(gen: &mut Gen) {
         1 => line.push(b'0'),
         2 => line.insert(gen.random.below(frame.len() * 2), b' '),
         3 => line.push(b'\r'),
-        4 => line = vec![gen.random.pick(b"TSs xg\r\0\xFF\xC3")],
+        4 => line = vec![gen.random.pick(b"TTSs xg\r\0\xFF\xC3")],
         5 => line = gen.random.pick(&[&b"t "[..], b" t", b"tt", b"t\r", b"t0", b"st", b"s0", b"0"]).to_vec(),
         6 => line = [b"S", &sighting[1..]].concat(),
         7 => line = sighting[..sighting.len() - 1 - gen.random.below(4)].to_vec(),

@@ -6,33 +6,34 @@ use crate::{config_stories, record_stories, shapes};
 type Story = fn(&mut Gen);
 
 /// Each story and how often it is told.
-const STORIES: [(usize, Story); 27] = [
-    (30, any_command),
-    (6, shapes::wrong_length),
-    (4, shapes::unknown_control),
-    (10, shapes::broken_frame),
-    (4, shapes::any_length),
-    (3, shapes::too_short),
-    (1, shapes::noise),
-    (12, shapes::malformed),
-    (4, config_stories::passwords),
-    (4, config_stories::configuration),
-    (4, config_stories::save_and_defaults),
-    (4, config_stories::block7),
-    (4, config_stories::addresses),
-    (6, timer_edges),
-    (3, record_stories::valid_time),
-    (3, record_stories::unused_valid_time),
-    (2, record_stories::overflow),
-    (2, record_stories::many_locks),
-    (4, record_stories::several_desks),
-    (6, record_stories::reading),
-    (4, record_stories::removal),
-    (3, record_stories::reset),
+const STORIES: [(usize, Story); 28] = [
+    (120, any_command),
+    (60, shapes::wrong_length),
+    (16, shapes::unknown_control),
+    (70, shapes::broken_frame),
+    (24, shapes::any_length),
+    (16, shapes::too_short),
+    (4, shapes::noise),
+    (80, shapes::malformed),
+    (10, config_stories::passwords),
+    (10, config_stories::configuration),
+    (6, config_stories::save_and_defaults),
+    (10, config_stories::block7),
+    (12, config_stories::addresses),
+    (14, timer_edges),
+    (4, record_stories::valid_time),
+    (8, record_stories::unused_valid_time),
+    (3, record_stories::overflow),
+    (2, record_stories::unread_overflow),
+    (3, record_stories::many_locks),
+    (10, record_stories::several_desks),
+    (10, record_stories::reading),
+    (12, record_stories::removal),
+    (10, record_stories::reset),
     (3, tick_run),
-    (3, record_stories::bad_sightings),
-    (6, record_stories::some_sightings),
-    (8, record_stories::probe_any),
+    (24, record_stories::bad_sightings),
+    (20, record_stories::some_sightings),
+    (20, record_stories::probe_any),
     (1, rarely),
 ];
 
@@ -95,17 +96,17 @@ fn timer_edges(gen: &mut Gen) {
         gen.ticks(1 + gen.random.below(3));
         gen.request(desk, 0x86, &[]);
     }
-    let ms = 50000u16 + gen.random.below(10000) as u16;
+    let ms = 58500u16 + gen.random.below(1500) as u16;
     let ms = ms.to_be_bytes();
     gen.request(desk, 0x85, &[gen.random.pick(&[22, 23]), 59, ms[0], ms[1]]);
-    gen.ticks(gen.random.below(110));
+    gen.ticks(gen.random.below(20));
     gen.request(desk, 0x86, &[]);
     let other = gen.other_desk(desk);
     gen.request(other, 0x86, &[]);
 }
 
 fn tick_run(gen: &mut Gen) {
-    let count = gen.random.pick(&[1, 2, 54, 55, 56, 100, 600]);
+    let count = gen.random.pick(&[1, 2, 54, 55, 56, 100, 300]);
     gen.ticks(count);
     let desk = gen.any_desk();
     gen.request(desk, 0x86, &[]);
