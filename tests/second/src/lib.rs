@@ -16,6 +16,7 @@ pub mod place;
 pub mod random;
 pub mod record_stories;
 pub mod shapes;
+pub mod sides;
 pub mod situations;
 pub mod stories;
 pub mod store;
