@@ -1,6 +1,10 @@
 #!/usr/bin/env python3
 """Applies each slip of tests/slips to a copy of the second program, builds it,
-and tells whether random events notice it: `slips.py [FILE.txt ...]`."""
+and tells whether random events notice it: `slips.py [FILE.txt ...]`.
+
+A slip is a line `# why`, then `file:`, `old:` and `new:`; `old` stands once in
+the file. What the listing does not reach (store, host, lines) is seen by
+`sides`, all else by `second` on the lines of `events`."""
 
 import os
 import shutil
@@ -11,11 +15,17 @@ from concurrent.futures import ThreadPoolExecutor
 from queue import Queue
 
 HERE = os.path.dirname(os.path.abspath(__file__))
-SECOND = os.path.join(HERE, "second")
+SECOND = os.path.join(HERE, "second", "src")
 SLIPS = os.path.join(HERE, "slips")
-EVENTS = [(seed, 20000) for seed in (1, 2, 3)]
-SIDES = [(seed, 12000) for seed in (1, 2)]
+BY_SIDES = ("store.txt", "host.txt", "lines.txt")
+# The short run first: it notices most, and the first that differs is enough.
+EVENTS = [(1, 4000), (2, 20000), (3, 20000)]
+SIDES = [(1, 2000), (2, 10000), (3, 10000)]
 WORKERS = 2
+# Quicker to build than to run well: no optimizing, and only what is needed.
+RUSTC = ["rustc", "--edition", "2021", "-C", "opt-level=0", "-C", "debuginfo=0", "--cap-lints", "allow"]
+LISTING = {"blocks", "command", "crc", "frame", "listing", "model", "timer"}
+NOT_IN_SIDES = {"coverage", "situations"}
 
 
 def read_slips(names):
@@ -28,17 +38,26 @@ def read_slips(names):
                 yield name, why.removeprefix("# "), slip
 
 
-def build(folder, *binaries):
-    wanted = [word for binary in binaries for word in ("--bin", binary)]
-    command = ["cargo", "build", "--quiet", "--offline", *wanted]
-    done = subprocess.run(command, cwd=folder, stderr=subprocess.PIPE, text=True)
+def rustc(folder, *arguments):
+    done = subprocess.run([*RUSTC, *arguments], cwd=folder, stderr=subprocess.PIPE, text=True)
     if done.returncode:
         raise RuntimeError(done.stderr)
 
 
+def modules(binary):
+    every = {name.removesuffix(".rs") for name in os.listdir(SECOND) if name.endswith(".rs")} - {"lib"}
+    return LISTING if binary == "second" else every - NOT_IN_SIDES
+
+
+def build(folder, binary):
+    with open(os.path.join(folder, "lib.rs"), "w") as file:
+        file.writelines(f"pub mod {name};\n" for name in sorted(modules(binary)))
+    rustc(folder, "--crate-type", "rlib", "--crate-name", "second", "-o", "libsecond.rlib", "lib.rs")
+    rustc(folder, "--extern", "second=libsecond.rlib", "-o", f"run-{binary}", f"bin/{binary}.rs")
+
+
 def run(folder, binary, *arguments, lines=b""):
-    program = os.path.join(folder, "target", "debug", binary)
-    command = [program, *map(str, arguments)]
+    command = [os.path.join(folder, f"run-{binary}"), *map(str, arguments)]
     try:
         done = subprocess.run(command, input=lines, timeout=60, stdout=subprocess.PIPE, stderr=subprocess.DEVNULL)
     except subprocess.TimeoutExpired:
@@ -46,21 +65,8 @@ def run(folder, binary, *arguments, lines=b""):
     return done.stdout
 
 
-def copy(folder):
-    shutil.copytree(SECOND, folder, ignore=shutil.ignore_patterns("target"))
-    return folder
-
-
-def runs(folder, events, sides):
-    """The outputs of a program, one at a time: the first that differs is enough."""
-    for lines in events:
-        yield run(folder, "second", lines=lines)
-    for seed, count in sides:
-        yield run(folder, "sides", seed, count)
-
-
 def edited(folder, slip):
-    path = os.path.join(folder, slip["file"])
+    path = os.path.join(folder, os.path.basename(slip["file"]))
     with open(path) as file:
         text = file.read()
     if text.count(slip["old"]) != 1:
@@ -70,48 +76,51 @@ def edited(folder, slip):
     return path, text
 
 
-def noticed(folder, slip, events, expected, sides):
+def noticed(folder, slip, binary, cases):
+    """A case: arguments, input, and what the sound program gives."""
     path, text = edited(folder, slip)
     try:
-        listing = not sides
-        build(folder, "second" if listing else "sides")
-        given = runs(folder, events if listing else [], sides)
-        return any(out != good for out, good in zip(given, expected))
+        build(folder, binary)
+        return any(run(folder, binary, *args, lines=lines) != good for args, lines, good in cases)
+    except RuntimeError as error:
+        raise RuntimeError(f"{slip}: {error}") from error
     finally:
         with open(path, "w") as file:
             file.write(text)
 
 
-def by_sides(name):
-    """What the listing does not reach is seen by `sides`."""
-    return name in ("store.txt", "host.txt", "lines.txt")
+def sound_cases(folder):
+    for binary in ("second", "events", "sides"):
+        build(folder, binary)
+    events = [run(folder, "events", *pair) for pair in EVENTS]
+    listing = [((), lines, run(folder, "second", lines=lines)) for lines in events]
+    sides = [(pair, b"", run(folder, "sides", *pair)) for pair in SIDES]
+    return {"second": listing, "sides": sides}
+
+
+def judged(slips, temporary):
+    cases = sound_cases(shutil.copytree(SECOND, os.path.join(temporary, "sound")))
+    folders = Queue()
+    for number in range(WORKERS):
+        folders.put(shutil.copytree(SECOND, os.path.join(temporary, str(number))))
+
+    def judge(entry):
+        name, _, slip = entry
+        binary = "sides" if name in BY_SIDES else "second"
+        folder = folders.get()
+        try:
+            return noticed(folder, slip, binary, cases[binary])
+        finally:
+            folders.put(folder)
+
+    with ThreadPoolExecutor(WORKERS) as pool:
+        return list(pool.map(judge, slips))
 
 
 def main():
-    names = sys.argv[1:] or sorted(os.listdir(SLIPS))
-    slips = list(read_slips(names))
+    slips = list(read_slips(sys.argv[1:] or sorted(os.listdir(SLIPS))))
     with tempfile.TemporaryDirectory() as temporary:
-        sound = copy(os.path.join(temporary, "sound"))
-        build(sound, "second", "events", "sides")
-        events = [run(sound, "events", *pair) for pair in EVENTS]
-        listing = list(runs(sound, events, []))
-        sides = list(runs(sound, [], SIDES))
-        folders = Queue()
-        for number in range(WORKERS):
-            folders.put(copy(os.path.join(temporary, str(number))))
-
-        def judge(entry):
-            name, why, slip = entry
-            folder = folders.get()
-            try:
-                if by_sides(name):
-                    return noticed(folder, slip, [], sides, SIDES)
-                return noticed(folder, slip, events, listing, [])
-            finally:
-                folders.put(folder)
-
-        with ThreadPoolExecutor(WORKERS) as pool:
-            results = list(pool.map(judge, slips))
+        results = judged(slips, temporary)
     for (name, why, _), seen in zip(slips, results):
         if not seen:
             print(f"not noticed: {name}: {why}")

@@ -26,20 +26,25 @@ impl Sides {
     }
 
     pub fn next_line(&mut self) -> String {
-        match self.gen.random.below(8) {
-            0 => self.maker(),
-            1 | 2 => self.reader(),
-            3 => self.line_writer(),
-            4 => self.damaged(),
+        match self.gen.random.below(64) {
+            0..8 => self.maker(),
+            8..24 => self.reader(),
+            24..32 => self.line_writer(),
+            32..40 => self.damaged(),
+            40 => self.sum(),
             _ => self.event(),
         }
     }
 
-    /// An event at the store on octets, and the CRC of what it leaves.
+    /// An event at the store on octets.
     fn event(&mut self) -> String {
         let line = self.gen.next_line();
-        let answer = served(&mut self.store, &event(&line));
-        format!("store {:04X}: {}", crc::of(&self.store), text(&answer))
+        format!("store: {}", text(&served(&mut self.store, &event(&line))))
+    }
+
+    /// The CRC of every octet of the store.
+    fn sum(&self) -> String {
+        format!("store {:04X}", crc::of(&self.store))
     }
 
     fn damaged(&mut self) -> String {
@@ -47,6 +52,9 @@ impl Sides {
         let mut store = self.store.clone();
         let at = interesting(random, &store);
         store[at] = any_octet(random, store[at]);
+        if random.one_in(3) {
+            store = zeros(random);
+        }
         let length = random.pick(&[0, SIZE - 1, SIZE, SIZE, SIZE, SIZE, SIZE]);
         let short = random.below(843);
         let mut out = vec![0; random.pick(&[short, 841, 842, 842, 842])];
@@ -112,11 +120,31 @@ fn interesting(random: &Random, store: &[u8]) -> usize {
     let fields = [LOGGED_IN, TIMER, TIMER + 1, TIMER + 2, MARK, DUE, TAB_START, LOCK_COUNT];
     match random.below(6) {
         0 => random.below(HEADER),
-        1 => entries_at(store) + ENTRY * random.below(MOST_ENTRIES),
+        1 => entries_at(store) + ENTRY * random.below(used(store) + 1),
         2 => row + random.pick(&[locks + 8, locks + 9, VALID_TIME, VALID_TIME + 1]),
         3 => row + block7,
         _ => row + random.pick(&fields),
     }
+}
+
+/// A store of zeros, so that it is sound wherever its areas lie; they lie at
+/// the edges of what is legal, or one octet beyond.
+fn zeros(random: &Random) -> Vec<u8> {
+    let mut store = vec![0; SIZE];
+    let rows = random.pick(&[5, 6, 6, 5 + ENTRIES, 6 + ENTRIES, SIZE - ROWS, SIZE - ROWS + 1]);
+    let entries = random.pick(&[5, 6, 6, 5 + ROWS, 6 + ROWS, SIZE - ENTRIES, SIZE - ENTRIES + 1]);
+    let used = random.pick(&[0, 1, 511, 512, 513]);
+    for (at, number) in [(0, rows), (2, entries), (4, used)] {
+        store[at..at + 2].copy_from_slice(&(number as u16).to_be_bytes());
+    }
+    for index in 0..MOST_ENTRIES {
+        store.get_mut(entries + index * ENTRY).map(|owner| *owner = (index % 8) as u8);
+    }
+    if random.one_in(2) {
+        let entry = random.below(MOST_ENTRIES);
+        store.get_mut(entries + entry * ENTRY).map(|owner| *owner = random.below(9) as u8);
+    }
+    store
 }
 
 fn any_octet(random: &Random, old: u8) -> u8 {
@@ -150,7 +178,7 @@ fn any_request(gen: &mut Gen) -> Request {
         0 => number,
         _ => u64::from(random.octet() & random.pick(&[0xFF, 0xCF, 0x8F, 0x87])),
     };
-    match random.below(14) {
+    match random.below(18) {
         0 => Request::Baud { value: number & random.pick(&[0, 1, 0xFFFF]) },
         1 => Request::CpuReset,
         2 => Request::SystemReset,
@@ -165,8 +193,8 @@ fn any_request(gen: &mut Gen) -> Request {
         },
         8 => Request::GetTimer,
         9 => Request::Login { password: number },
-        10 | 11 => Request::ReadRecords { k: random.pick(&[number, number % 70, 19, 20, 64]) },
-        12 => Request::TableInfo,
+        10..16 => Request::ReadRecords { k: random.pick(&[number, number % 70, 0, 19, 19, 20, 64, 65]) },
+        16 => Request::TableInfo,
         _ => random.pick(&[Request::RemoveRecords, Request::EmptyRecords]),
     }
 }
@@ -175,15 +203,16 @@ fn any_request(gen: &mut Gen) -> Request {
 fn any_reply(random: &Random, kind: Kind, desk: u8, request: &Request) -> Vec<u8> {
     let mut rest = box_answer(random, kind, request);
     let (mut kind, mut address, mut control) = (kind, desk, request.control());
-    match random.below(12) {
-        0 => rest[0] = random.pick(&[0, 0x11, 0x13, 0x14, 0x15, 0x80, 0x81, 0x92, 0x93, 0x94]),
-        1 => rest.truncate(random.below(rest.len() + 1)),
-        2 => rest.push(0),
-        3 => rest.extend([7; 13]),
-        4 => kind = random.pick(&Kind::BOTH),
-        5 => address ^= 1,
-        6 => control ^= 1,
-        7 if rest.len() > 2 => rest[2] = rest[2].wrapping_add(random.pick(&[1, 255])),
+    match random.below(16) {
+        0..2 => rest[0] = random.pick(&[0, 0x11, 0x13, 0x14, 0x15, 0x80, 0x81]),
+        2..4 => rest[0] = random.pick(&[0, 0x11, 0x92, 0x93, 0x94, 0x94]),
+        4 => rest.truncate(random.below(rest.len() + 1)),
+        5 => rest.push(0),
+        6 => rest.extend([7; 13]),
+        7 => kind = random.pick(&Kind::BOTH),
+        8 => address ^= 1,
+        9 => control ^= 1,
+        10 if rest.len() > 2 => rest[2] = rest[2].wrapping_add(random.pick(&[1, 255])),
         _ => {}
     }
     rest.truncate(kind.longest() - kind.shortest_request());
@@ -197,7 +226,7 @@ fn any_reply(random: &Random, kind: Kind, desk: u8, request: &Request) -> Vec<u8
 
 fn box_answer(random: &Random, kind: Kind, request: &Request) -> Vec<u8> {
     let mut depot = Depot::fresh();
-    let held = random.pick(&[0, 1, 18, 19, 20, 63, 64, 64]);
+    let held = random.pick(&[0, 1, 18, 19, 20, 64, 64, 64]);
     depot.desks[0].records = vec![[7; 13]; held];
     depot.desks[0].mark = held == TAB_SIZE && random.one_in(2);
     depot.desks[0].logged_in = random.one_in(2);
