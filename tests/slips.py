@@ -52,7 +52,8 @@ def modules(binary):
 def build(folder, binary):
     with open(os.path.join(folder, "lib.rs"), "w") as file:
         file.writelines(f"pub mod {name};\n" for name in sorted(modules(binary)))
-    rustc(folder, "--crate-type", "rlib", "--crate-name", "second", "-o", "libsecond.rlib", "lib.rs")
+    kept = ["-C", f"incremental=kept-{binary}"]
+    rustc(folder, "--crate-type", "rlib", "--crate-name", "second", *kept, "-o", "libsecond.rlib", "lib.rs")
     rustc(folder, "--extern", "second=libsecond.rlib", "-o", f"run-{binary}", f"bin/{binary}.rs")
 
 
