@@ -221,10 +221,7 @@ fn read_records(desk: &mut Desk, kind: Kind, data: &[u8]) -> Reply {
     let wanted = k.min(desk.records.len());
     let sent = wanted.min(fitting(kind));
     desk.due = sent;
-    Reply {
-        status: read_status(desk.mark, sent < wanted),
-        data: sent_records(desk, sent),
-    }
+    Reply { status: read_status(desk.mark, sent < wanted), data: sent_records(desk, sent) }
 }
 
 /// 0x93 goes before 0x94.

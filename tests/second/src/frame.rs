@@ -118,12 +118,7 @@ fn judge(octets: &[u8], shortest: fn(Kind) -> usize) -> Result<Frame<'_>, Refusa
         return Err(Refusal::Crc);
     }
     let at = kind.head();
-    Ok(Frame {
-        kind,
-        address: body[at],
-        control: body[at + 1],
-        rest: &body[at + 2..],
-    })
+    Ok(Frame { kind, address: body[at], control: body[at + 1], rest: &body[at + 2..] })
 }
 
 /// The caller keeps within the longest length of the kind.

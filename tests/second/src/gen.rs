@@ -14,16 +14,12 @@ pub struct Gen {
     depot: Depot,
     queue: VecDeque<Vec<u8>>,
     serial: usize,
+    length: usize,
 }
 
 impl Gen {
     pub fn new(seed: u64) -> Gen {
-        Gen {
-            random: Random::new(seed),
-            depot: Depot::fresh(),
-            queue: VecDeque::new(),
-            serial: 0,
-        }
+        Gen { random: Random::new(seed), depot: Depot::fresh(), queue: VecDeque::new(), serial: 0, length: 0 }
     }
 
     /// The next line, without its LF.
@@ -144,6 +140,12 @@ impl Gen {
     pub fn old_uid(&self) -> Uid {
         let back = self.random.below(150);
         Gen::uid(self.serial.saturating_sub(back))
+    }
+
+    /// Every length from 0 to 900 in its turn.
+    pub fn next_length(&mut self) -> usize {
+        self.length = (self.length + 1) % 901;
+        self.length
     }
 
     pub fn sight(&mut self, desk: usize, uid: Uid) {

@@ -99,17 +99,10 @@ pub struct Read<'a> {
 }
 
 /// The reader: 3, 4, then 8.
-pub fn read<'a>(
-    kind: Kind,
-    desk: u64,
-    request: &Request,
-    reply: &'a [u8],
-) -> Result<Read<'a>, Refusal> {
+pub fn read<'a>(kind: Kind, desk: u64, request: &Request, reply: &'a [u8]) -> Result<Read<'a>, Refusal> {
     let frame = judge_reply(reply)?;
     let (&status, data) = frame.rest.split_first().ok_or(Refusal::Length)?;
-    let same = frame.kind == kind
-        && u64::from(frame.address) == desk
-        && frame.control == request.control();
+    let same = frame.kind == kind && u64::from(frame.address) == desk && frame.control == request.control();
     let answered = same && desk < DESKS as u64 && possible(kind, request, status, data.len());
     if !answered || !count_agrees(request, data) {
         return Err(Refusal::Reply);
@@ -131,10 +124,9 @@ pub fn possible(kind: Kind, request: &Request, status: u8, length: usize) -> boo
         Request::TableInfo => (status, length) == (command::OK, 6),
         Request::Login { .. } => [command::OK, command::LOGIN_FAILED].contains(&status) && length == 0,
         Request::ReadRecords { k } => records_possible(kind, k, status, length),
-        Request::CpuReset
-        | Request::SystemReset
-        | Request::RemoveRecords
-        | Request::EmptyRecords => (status, length) == (command::OK, 0),
+        Request::CpuReset | Request::SystemReset | Request::RemoveRecords | Request::EmptyRecords => {
+            (status, length) == (command::OK, 0)
+        }
         _ => (status, length) == (command::LOGIN_NEEDED, 0) || block_possible(request, status, length),
     }
 }
@@ -170,7 +162,7 @@ fn block_possible(request: &Request, status: u8, length: usize) -> bool {
 /// 0x94 means that the reply was full and that more were wanted.
 fn records_possible(kind: Kind, k: u64, status: u8, length: usize) -> bool {
     let most = fitting(kind).min(k as usize);
-    let sent = if length >= 2 && (length - 2) % 13 == 0 { (length - 2) / 13 } else { 0 };
+    let sent = (0..=fitting(kind)).find(|sent| 2 + 13 * sent == length).unwrap_or(0);
     match status {
         command::PARAMETER => k == 0 && length == 0,
         command::NO_DATA => k > 0 && length == 0,

@@ -77,11 +77,7 @@ fn sighting(text: &[u8]) -> Option<Event> {
     let hex = octets(hex)?;
     let mut uid = [0; 8];
     uid.copy_from_slice(&hex[..8]);
-    Some(Event::Sighting {
-        desk: digit - b'0',
-        uid,
-        mask: hex[8],
-    })
+    Some(Event::Sighting { desk: digit - b'0', uid, mask: hex[8] })
 }
 
 fn octets(hex: &[u8]) -> Option<Vec<u8>> {
@@ -104,9 +100,9 @@ fn nibble(digit: u8) -> Option<u8> {
 pub fn serve(depot: &mut Depot, event: &Event) -> Answer {
     match event {
         Event::Frame(octets) => depot.frame(octets).map_or_else(Answer::Refused, Answer::Reply),
-        Event::Sighting { desk, uid, mask } => depot
-            .sighting(u64::from(*desk), *uid, *mask)
-            .map_or_else(Answer::Refused, Answer::Seen),
+        Event::Sighting { desk, uid, mask } => {
+            depot.sighting(u64::from(*desk), *uid, *mask).map_or_else(Answer::Refused, Answer::Seen)
+        }
         Event::Tick => {
             depot.tick();
             Answer::Ok

@@ -123,9 +123,7 @@ pub struct Depot {
 
 impl Depot {
     pub fn fresh() -> Depot {
-        Depot {
-            desks: std::array::from_fn(|_| Desk::fresh()),
-        }
+        Depot { desks: std::array::from_fn(|_| Desk::fresh()) }
     }
 
     pub fn frame(&mut self, octets: &[u8]) -> Result<Vec<u8>, Refusal> {

@@ -265,4 +265,3 @@ pub fn reset(gen: &mut Gen) {
     let other = gen.other_desk(desk);
     probe(gen, other);
 }
-

@@ -5,26 +5,23 @@ use crate::crc;
 use crate::frame::{seal, Kind};
 use crate::gen::Gen;
 
-/// A sound request of some length, up to 900 octets: too long ones as well.
+/// A request that is sound but for its length, which may be any up to 900.
 pub fn any_length(gen: &mut Gen) {
-    let octets = long_request(gen);
+    let length = match gen.random.below(3) {
+        0 => gen.random.pick(&[253, 254, 255, 256, 840, 841, 842, 843, 844]),
+        _ => gen.next_length(),
+    };
+    let octets = of_length(gen, length);
     gen.octets(&octets);
 }
 
-fn long_request(gen: &mut Gen) -> Vec<u8> {
-    let kind = gen.any_kind();
-    let edges = match kind {
-        Kind::Standard => [5, 6, 7, 9, 20, 253, 254, 255],
-        Kind::Advanced => [7, 8, 9, 255, 256, 841, 842, 843],
-    };
-    let most = if kind == Kind::Standard { 255 } else { 900 };
-    let shortest = kind.shortest_request();
-    let length = match gen.random.below(2) {
-        0 => gen.random.pick(&edges),
-        _ => shortest + gen.random.below(most - shortest + 1),
-    };
+fn of_length(gen: &mut Gen, length: usize) -> Vec<u8> {
+    let kind = if length > 255 { Kind::Advanced } else { gen.any_kind() };
+    if length < kind.shortest_request() {
+        return gen.random.octets(length);
+    }
     let (desk, control) = (gen.any_desk(), any_control(gen));
-    let data = gen.random.octets(length - shortest);
+    let data = gen.random.octets(length - kind.shortest_request());
     seal(kind, desk as u8, control, &data)
 }
 
@@ -35,9 +32,7 @@ pub fn any_control(gen: &mut Gen) -> u8 {
     }
 }
 
-pub const CONTROLS: [u8; 14] = [
-    0x52, 0x63, 0x64, 0x80, 0x81, 0x82, 0x83, 0x85, 0x86, 0xA0, 0x22, 0x31, 0x32, 0x33,
-];
+pub const CONTROLS: [u8; 14] = [0x52, 0x63, 0x64, 0x80, 0x81, 0x82, 0x83, 0x85, 0x86, 0xA0, 0x22, 0x31, 0x32, 0x33];
 
 pub fn unknown_control(gen: &mut Gen) {
     let near = gen.random.pick(&CONTROLS).wrapping_add(gen.random.pick(&[1, 255, 0x80, 0x10]));
@@ -67,7 +62,11 @@ pub fn wrong_length(gen: &mut Gen) {
 
 /// A sound request, then one thing about it made wrong.
 pub fn broken_frame(gen: &mut Gen) {
-    let mut octets = if gen.random.one_in(4) { long_request(gen) } else { short_request(gen) };
+    let mut octets = short_request(gen);
+    if gen.random.one_in(4) {
+        let length = 7 + gen.random.below(894);
+        octets = of_length(gen, length);
+    }
     match gen.random.below(10) {
         0 => octets.truncate(gen.random.below(octets.len())),
         1 => octets.truncate(octets.len() - 1),
@@ -161,7 +160,7 @@ pub fn too_short(gen: &mut Gen) {
 
 /// Any octets at all, of any length up to 900.
 pub fn noise(gen: &mut Gen) {
-    let length = gen.random.below(901);
+    let length = gen.next_length();
     let octets = gen.random.octets(length);
     gen.octets(&octets);
 }

@@ -105,8 +105,9 @@ pub fn served(store: &mut [u8], event: &Event) -> Answer {
             place::frame(store, octets, &mut out)
                 .map_or_else(Answer::Refused, |length| Answer::Reply(out[..length].to_vec()))
         }
-        Event::Sighting { desk, uid, mask } => place::sighting(store, u64::from(*desk), *uid, *mask)
-            .map_or_else(Answer::Refused, Answer::Seen),
+        Event::Sighting { desk, uid, mask } => {
+            place::sighting(store, u64::from(*desk), *uid, *mask).map_or_else(Answer::Refused, Answer::Seen)
+        }
         Event::Tick => place::tick(store).map_or_else(Answer::Refused, |()| Answer::Ok),
         Event::NotRead => Answer::NotRead,
     }
@@ -138,13 +139,18 @@ fn zeros(random: &Random) -> Vec<u8> {
         store[at..at + 2].copy_from_slice(&(number as u16).to_be_bytes());
     }
     for index in 0..MOST_ENTRIES {
-        store.get_mut(entries + index * ENTRY).map(|owner| *owner = (index % 8) as u8);
+        own(&mut store, entries + index * ENTRY, index % 8);
     }
     if random.one_in(2) {
-        let entry = random.below(MOST_ENTRIES);
-        store.get_mut(entries + entry * ENTRY).map(|owner| *owner = random.below(9) as u8);
+        own(&mut store, entries + ENTRY * random.below(MOST_ENTRIES), random.below(9));
     }
     store
+}
+
+fn own(store: &mut [u8], at: usize, desk: usize) {
+    if let Some(owner) = store.get_mut(at) {
+        *owner = desk as u8;
+    }
 }
 
 fn any_octet(random: &Random, old: u8) -> u8 {

@@ -41,8 +41,16 @@ pub fn required() -> Vec<String> {
 const CRC_SHAPES: [&str; 2] = ["", ", desk above 7 as well"];
 
 const ADR_SHAPES: [&str; 10] = [
-    "RAM block 0", "RAM block", "RAM beyond 15", "RAM all", "RAM all and a block",
-    "EEPROM block 0", "EEPROM block", "EEPROM beyond 15", "EEPROM all", "EEPROM all and a block",
+    "RAM block 0",
+    "RAM block",
+    "RAM beyond 15",
+    "RAM all",
+    "RAM all and a block",
+    "EEPROM block 0",
+    "EEPROM block",
+    "EEPROM beyond 15",
+    "EEPROM all",
+    "EEPROM all and a block",
 ];
 
 pub fn adr_shape(adr: u8) -> String {
@@ -58,8 +66,18 @@ pub fn adr_shape(adr: u8) -> String {
 }
 
 const NOT_READ: [&str; 12] = [
-    "odd digits", "space", "CR", "small s, wrong length", "small s, bad desk", "small s, bad digit",
-    "capital S", "capital T", "t and more", "octet above 127", "longer than a frame", "other",
+    "odd digits",
+    "space",
+    "CR",
+    "small s, wrong length",
+    "small s, bad desk",
+    "small s, bad digit",
+    "capital S",
+    "capital T",
+    "t and more",
+    "octet above 127",
+    "longer than a frame",
+    "other",
 ];
 
 pub fn not_read_shape(line: &[u8]) -> &'static str {

@@ -1,6 +1,6 @@
 //! The store as octets (docs/LAYOUT.md): is it sound, and what does it say.
 
-use crate::blocks::{block7_legal, Memory, BLOCKS, BLOCK_BYTES, DEFAULTS};
+use crate::blocks::{block7_legal, Memory, BLOCK_BYTES};
 use crate::model::{Depot, Desk, Lock, DESKS, LOCKS, TAB_SIZE};
 use crate::timer::Timer;
 
@@ -97,12 +97,7 @@ pub fn timer(row: &[u8]) -> Timer {
 }
 
 fn memory(row: &[u8], at: usize) -> Memory {
-    let mut memory = DEFAULTS;
-    for block in 0..BLOCKS {
-        let from = at + block * BLOCK_BYTES;
-        memory[block].copy_from_slice(&row[from..from + BLOCK_BYTES]);
-    }
-    memory
+    std::array::from_fn(|block| std::array::from_fn(|byte| row[at + block * BLOCK_BYTES + byte]))
 }
 
 fn locks(row: &[u8]) -> Vec<Lock> {
@@ -114,17 +109,12 @@ fn locks(row: &[u8]) -> Vec<Lock> {
 fn lock(octets: &[u8]) -> Lock {
     let mut uid = [0; 8];
     uid.copy_from_slice(&octets[..8]);
-    Lock {
-        uid,
-        left: u16::from_be_bytes([octets[8], octets[9]]),
-    }
+    Lock { uid, left: u16::from_be_bytes([octets[8], octets[9]]) }
 }
 
 /// The box that sound octets say; nothing when they are not sound.
 pub fn load(store: &[u8]) -> Option<Depot> {
-    sound(store).then(|| Depot {
-        desks: std::array::from_fn(|desk| load_desk(store, desk)),
-    })
+    sound(store).then(|| Depot { desks: std::array::from_fn(|desk| load_desk(store, desk)) })
 }
 
 fn load_desk(store: &[u8], desk: usize) -> Desk {

@@ -11,9 +11,9 @@ const STORIES: [(usize, Story); 28] = [
     (60, shapes::wrong_length),
     (16, shapes::unknown_control),
     (70, shapes::broken_frame),
-    (24, shapes::any_length),
+    (70, shapes::any_length),
     (16, shapes::too_short),
-    (4, shapes::noise),
+    (12, shapes::noise),
     (80, shapes::malformed),
     (10, config_stories::passwords),
     (10, config_stories::configuration),
@@ -111,4 +111,3 @@ fn tick_run(gen: &mut Gen) {
     let desk = gen.any_desk();
     gen.request(desk, 0x86, &[]);
 }
-

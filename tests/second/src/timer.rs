@@ -9,11 +9,7 @@ pub struct Timer {
 
 impl Timer {
     pub fn from_octets(octets: [u8; 4]) -> Timer {
-        Timer {
-            hour: octets[0],
-            minute: octets[1],
-            ms: u16::from_be_bytes([octets[2], octets[3]]),
-        }
+        Timer { hour: octets[0], minute: octets[1], ms: u16::from_be_bytes([octets[2], octets[3]]) }
     }
 
     pub fn octets(self) -> [u8; 4] {
