@@ -1,0 +1,25 @@
+//! `coverage SEED COUNT` runs the box over the same lines as `events` and
+//! prints how often each situation was reached; 1 if one never was.
+
+use second::coverage::Coverage;
+use second::gen::Gen;
+use std::process::exit;
+
+fn main() {
+    let numbers: Vec<u64> = std::env::args().skip(1).filter_map(|text| text.parse().ok()).collect();
+    let [seed, count] = numbers[..] else {
+        eprintln!("coverage SEED COUNT");
+        exit(2);
+    };
+    let mut gen = Gen::new(seed);
+    let mut coverage = Coverage::new();
+    for _ in 0..count {
+        coverage.line(&gen.next_line());
+    }
+    for (name, count) in coverage.counts() {
+        println!("{count:9}  {name}");
+    }
+    let missing = coverage.counts().values().filter(|&&count| count == 0).count();
+    println!("{} situations, {missing} not reached", coverage.counts().len());
+    exit(i32::from(missing > 0));
+}

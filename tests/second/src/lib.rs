@@ -1,0 +1,24 @@
+//! The shared depot box, written a second time from the paper alone, to be
+//! read beside it and to be run against the proved program.
+
+pub mod blocks;
+pub mod command;
+pub mod config_stories;
+pub mod coverage;
+pub mod crc;
+pub mod frame;
+pub mod gen;
+pub mod host;
+pub mod lines;
+pub mod listing;
+pub mod model;
+pub mod place;
+pub mod place_commands;
+pub mod random;
+pub mod record_stories;
+pub mod shapes;
+pub mod sides;
+pub mod situations;
+pub mod store;
+pub mod stories;
+pub mod timer;

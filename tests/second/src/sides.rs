@@ -1,0 +1,243 @@
+//! Random calls of what the listing does not reach: the store on octets, sound
+//! or damaged, the host's maker and reader, the line writer. One line a call.
+
+use crate::config_stories::any_block7;
+use crate::crc;
+use crate::frame::{seal, Kind, Refusal};
+use crate::gen::Gen;
+use crate::host::{make, read, Request};
+use crate::lines::{line, lines};
+use crate::listing::{capital_hex, event, text, Answer, Event};
+use crate::model::{Depot, TAB_SIZE};
+use crate::place;
+use crate::random::Random;
+use crate::store::*;
+
+pub struct Sides {
+    gen: Gen,
+    store: Vec<u8>,
+}
+
+impl Sides {
+    pub fn new(seed: u64) -> Sides {
+        let mut store = vec![0; SIZE];
+        _ = place::fresh(&mut store);
+        Sides { gen: Gen::new(seed), store }
+    }
+
+    pub fn next_line(&mut self) -> String {
+        match self.gen.random.below(64) {
+            0..8 => self.maker(),
+            8..24 => self.reader(),
+            24..32 => self.line_writer(),
+            32..40 => self.damaged(),
+            40 => self.sum(),
+            _ => self.event(),
+        }
+    }
+
+    /// An event at the store on octets.
+    fn event(&mut self) -> String {
+        let line = self.gen.next_line();
+        format!("store: {}", text(&served(&mut self.store, &event(&line))))
+    }
+
+    /// The CRC of every octet of the store.
+    fn sum(&self) -> String {
+        format!("store {:04X}", crc::of(&self.store))
+    }
+
+    fn damaged(&mut self) -> String {
+        let random = &self.gen.random;
+        let mut store = self.store.clone();
+        let at = interesting(random, &store);
+        store[at] = any_octet(random, store[at]);
+        if random.one_in(3) {
+            store = zeros(random);
+        }
+        let length = random.pick(&[0, SIZE - 1, SIZE, SIZE, SIZE, SIZE, SIZE]);
+        let short = random.below(843);
+        let mut out = vec![0; random.pick(&[short, 841, 842, 842, 842])];
+        let frame = seal(random.pick(&Kind::BOTH), 8, 0x63, &[]);
+        let answer = place::frame(&mut store[..length], &frame, &mut out);
+        format!("damage at {at}: {:?}", answer.map_err(Refusal::number))
+    }
+
+    fn maker(&mut self) -> String {
+        let request = any_request(&mut self.gen);
+        let random = &self.gen.random;
+        let (kind, desk) = (random.pick(&Kind::BOTH), any_desk(random));
+        let mut out = [0xEE; 24];
+        let room = random.pick(&[random.below(24), 24, 24]);
+        let made = make(kind, desk, &request, &mut out[..room]);
+        format!("make {kind:?} {desk} {request:?}: {:?} {}", made.map_err(Refusal::number), capital_hex(&out))
+    }
+
+    fn reader(&mut self) -> String {
+        let request = any_request(&mut self.gen);
+        let random = &self.gen.random;
+        let (kind, desk) = (random.pick(&Kind::BOTH), any_desk(random));
+        let reply = any_reply(random, kind, desk as u8, &request);
+        let answer = read(kind, desk, &request, &reply).map_err(Refusal::number);
+        let answer = answer.map(|read| (read.status, read.data.len()));
+        format!("read {kind:?} {desk} {request:?}: {answer:?}")
+    }
+
+    fn line_writer(&mut self) -> String {
+        let block = any_block7(&mut self.gen);
+        let random = &self.gen.random;
+        let mut out = [0xEE; 90];
+        let room = random.pick(&[random.below(90), 90]);
+        let record: [u8; 13] = std::array::from_fn(|_| random.octet());
+        let data = random.octets(random.pick(&[0, 1, 2, 15, 28, 20]));
+        let made = match random.below(2) {
+            0 => line(&block, &record, &mut out[..room]),
+            _ => lines(&block, &data, &mut out[..room]),
+        };
+        format!("line {:?} {}", made.map_err(Refusal::number), capital_hex(&out))
+    }
+}
+
+pub fn served(store: &mut [u8], event: &Event) -> Answer {
+    match event {
+        Event::Frame(octets) => {
+            let mut out = [0; place::REPLY_BUFFER];
+            place::frame(store, octets, &mut out)
+                .map_or_else(Answer::Refused, |length| Answer::Reply(out[..length].to_vec()))
+        }
+        Event::Sighting { desk, uid, mask } => {
+            place::sighting(store, u64::from(*desk), *uid, *mask).map_or_else(Answer::Refused, Answer::Seen)
+        }
+        Event::Tick => place::tick(store).map_or_else(Answer::Refused, |()| Answer::Ok),
+        Event::NotRead => Answer::NotRead,
+    }
+}
+
+/// An octet of the store that the soundness test looks at, mostly.
+fn interesting(random: &Random, store: &[u8]) -> usize {
+    let row = rows_at(store) + random.below(8) * ROW;
+    let locks = LOCK_LIST + LOCK * random.below(3);
+    let block7 = random.pick(&[RAM, EEPROM]) + 7 * 14 + random.pick(&[0, 1, 3, 13]);
+    let fields = [LOGGED_IN, TIMER, TIMER + 1, TIMER + 2, MARK, DUE, TAB_START, LOCK_COUNT];
+    match random.below(6) {
+        0 => random.below(HEADER),
+        1 => entries_at(store) + ENTRY * random.below(used(store) + 1),
+        2 => row + random.pick(&[locks + 8, locks + 9, VALID_TIME, VALID_TIME + 1]),
+        3 => row + block7,
+        _ => row + random.pick(&fields),
+    }
+}
+
+/// A store of zeros, so that it is sound wherever its areas lie; they lie at
+/// the edges of what is legal, or one octet beyond.
+fn zeros(random: &Random) -> Vec<u8> {
+    let mut store = vec![0; SIZE];
+    let rows = random.pick(&[5, 6, 6, 5 + ENTRIES, 6 + ENTRIES, SIZE - ROWS, SIZE - ROWS + 1]);
+    let entries = random.pick(&[5, 6, 6, 5 + ROWS, 6 + ROWS, SIZE - ENTRIES, SIZE - ENTRIES + 1]);
+    let used = random.pick(&[0, 1, 511, 512, 513]);
+    for (at, number) in [(0, rows), (2, entries), (4, used)] {
+        store[at..at + 2].copy_from_slice(&(number as u16).to_be_bytes());
+    }
+    for index in 0..MOST_ENTRIES {
+        own(&mut store, entries + index * ENTRY, index % 8);
+    }
+    if random.one_in(2) {
+        own(&mut store, entries + ENTRY * random.below(MOST_ENTRIES), random.below(9));
+    }
+    store
+}
+
+fn own(store: &mut [u8], at: usize, desk: usize) {
+    if let Some(owner) = store.get_mut(at) {
+        *owner = desk as u8;
+    }
+}
+
+fn any_octet(random: &Random, old: u8) -> u8 {
+    match random.below(3) {
+        0 => random.octet(),
+        1 => old.wrapping_add(random.pick(&[1, 255])),
+        _ => random.pick(&[0, 1, 2, 7, 8, 23, 24, 59, 60, 63, 64, 65, 234, 255]),
+    }
+}
+
+fn any_desk(random: &Random) -> u64 {
+    match random.below(6) {
+        0 => random.pick(&[7, 8, 9, 255, 256, 263, u64::MAX]),
+        _ => random.below(8) as u64,
+    }
+}
+
+fn any_number(random: &Random) -> u64 {
+    match random.below(3) {
+        0 => random.below(70) as u64,
+        1 => random.pick(&[0, 1, 15, 16, 64, 0x87, 0xC0, 255, 256, 59999, 60000, 65535, 65536, 0xFFFF_FFFF, 1 << 32]),
+        _ => random.next() >> random.below(64),
+    }
+}
+
+fn any_request(gen: &mut Gen) -> Request {
+    let bytes = any_block7(gen);
+    let random = &gen.random;
+    let number = any_number(random);
+    let adr = match random.below(8) {
+        0 => number,
+        _ => u64::from(random.octet() & random.pick(&[0xFF, 0xCF, 0x8F, 0x87])),
+    };
+    match random.below(18) {
+        0 => Request::Baud { value: number & random.pick(&[0, 1, 0xFFFF]) },
+        1 => Request::CpuReset,
+        2 => Request::SystemReset,
+        3 => Request::ReadBlock { adr },
+        4 => Request::WriteBlock { adr, bytes },
+        5 => Request::SaveBlocks { adr },
+        6 => Request::SetDefaults { adr },
+        7 => Request::SetTimer {
+            hour: random.pick(&[0, 23, 24, 255, 256]),
+            minute: random.pick(&[0, 59, 60, 255, 256]),
+            ms: random.pick(&[0, 59999, 60000, 65535, 65536]),
+        },
+        8 => Request::GetTimer,
+        9 => Request::Login { password: number },
+        10..16 => Request::ReadRecords { k: random.pick(&[number, number % 70, 0, 19, 19, 20, 64, 65]) },
+        16 => Request::TableInfo,
+        _ => random.pick(&[Request::RemoveRecords, Request::EmptyRecords]),
+    }
+}
+
+/// What a desk answers, now and then with one thing changed.
+fn any_reply(random: &Random, kind: Kind, desk: u8, request: &Request) -> Vec<u8> {
+    let mut rest = box_answer(random, kind, request);
+    let (mut kind, mut address, mut control) = (kind, desk, request.control());
+    match random.below(16) {
+        0..2 => rest[0] = random.pick(&[0, 0x11, 0x13, 0x14, 0x15, 0x80, 0x81]),
+        2..4 => rest[0] = random.pick(&[0, 0x11, 0x92, 0x93, 0x94, 0x94]),
+        4 => rest.truncate(random.below(rest.len() + 1)),
+        5 => rest.push(0),
+        6 => rest.extend([7; 13]),
+        7 => kind = random.pick(&Kind::BOTH),
+        8 => address ^= 1,
+        9 => control ^= 1,
+        10 if rest.len() > 2 => rest[2] = rest[2].wrapping_add(random.pick(&[1, 255])),
+        _ => {}
+    }
+    rest.truncate(kind.longest() - kind.shortest_request());
+    let mut reply = seal(kind, address, control, &rest);
+    if random.one_in(12) {
+        let at = random.below(reply.len());
+        reply[at] ^= 1 << random.below(8);
+    }
+    reply
+}
+
+fn box_answer(random: &Random, kind: Kind, request: &Request) -> Vec<u8> {
+    let mut depot = Depot::fresh();
+    let held = random.pick(&[0, 1, 18, 19, 20, 64, 64, 64]);
+    depot.desks[0].records = vec![[7; 13]; held];
+    depot.desks[0].mark = held == TAB_SIZE && random.one_in(2);
+    depot.desks[0].logged_in = random.one_in(2);
+    let data = request.data().unwrap_or_default();
+    let reply = depot.frame(&seal(kind, 0, request.control(), &data));
+    let head = kind.head() + 2;
+    reply.map_or(vec![0], |reply| reply[head..reply.len() - 2].to_vec())
+}
