@@ -114,7 +114,7 @@ pub fn served(store: &mut [u8], event: &Event) -> Answer {
 }
 
 /// An octet of the store that the soundness test looks at, mostly.
-fn interesting(random: &Random, store: &[u8]) -> usize {
+pub fn interesting(random: &Random, store: &[u8]) -> usize {
     let row = rows_at(store) + random.below(8) * ROW;
     let locks = LOCK_LIST + LOCK * random.below(3);
     let block7 = random.pick(&[RAM, EEPROM]) + 7 * 14 + random.pick(&[0, 1, 3, 13]);
@@ -130,7 +130,7 @@ fn interesting(random: &Random, store: &[u8]) -> usize {
 
 /// A store of zeros, so that it is sound wherever its areas lie; they lie at
 /// the edges of what is legal, or one octet beyond.
-fn zeros(random: &Random) -> Vec<u8> {
+pub fn zeros(random: &Random) -> Vec<u8> {
     let mut store = vec![0; SIZE];
     let rows = random.pick(&[5, 6, 6, 5 + ENTRIES, 6 + ENTRIES, SIZE - ROWS, SIZE - ROWS + 1]);
     let entries = random.pick(&[5, 6, 6, 5 + ROWS, 6 + ROWS, SIZE - ENTRIES, SIZE - ENTRIES + 1]);
@@ -153,7 +153,7 @@ fn own(store: &mut [u8], at: usize, desk: usize) {
     }
 }
 
-fn any_octet(random: &Random, old: u8) -> u8 {
+pub fn any_octet(random: &Random, old: u8) -> u8 {
     match random.below(3) {
         0 => random.octet(),
         1 => old.wrapping_add(random.pick(&[1, 255])),
@@ -161,7 +161,7 @@ fn any_octet(random: &Random, old: u8) -> u8 {
     }
 }
 
-fn any_desk(random: &Random) -> u64 {
+pub fn any_desk(random: &Random) -> u64 {
     match random.below(6) {
         0 => random.pick(&[7, 8, 9, 255, 256, 263, u64::MAX]),
         _ => random.below(8) as u64,
@@ -176,7 +176,7 @@ fn any_number(random: &Random) -> u64 {
     }
 }
 
-fn any_request(gen: &mut Gen) -> Request {
+pub fn any_request(gen: &mut Gen) -> Request {
     let bytes = any_block7(gen);
     let random = &gen.random;
     let number = any_number(random);
@@ -206,7 +206,7 @@ fn any_request(gen: &mut Gen) -> Request {
 }
 
 /// What a desk answers, now and then with one thing changed.
-fn any_reply(random: &Random, kind: Kind, desk: u8, request: &Request) -> Vec<u8> {
+pub fn any_reply(random: &Random, kind: Kind, desk: u8, request: &Request) -> Vec<u8> {
     let mut rest = box_answer(random, kind, request);
     let (mut kind, mut address, mut control) = (kind, desk, request.control());
     match random.below(16) {
