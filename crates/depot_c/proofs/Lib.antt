@@ -1,0 +1,4 @@
+pub mod Fits
+pub mod Lengths
+pub mod NoRequest
+pub mod Once
