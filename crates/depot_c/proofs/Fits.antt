@@ -157,7 +157,7 @@ reading-fits : (o : Option Refusal) (t : Told) → t .status < 256 → t .start 
 reading-fits none t a b c = omega arith
 reading-fits (some r) t a b c = omega (arith, number-small r)
 
-lead-small : (k : Kind) → shapeOf k .lead ≤ 3
+pub lead-small : (k : Kind) → shapeOf k .lead ≤ 3
 lead-small Standard = omega arith
 lead-small Advanced = omega arith
 

@@ -2,3 +2,4 @@ pub mod Fits
 pub mod Lengths
 pub mod NoRequest
 pub mod Once
+pub mod Told
