@@ -56,7 +56,7 @@ pub fn line<'a>(block: &Block, record: &Record, out: &'a mut [u8]) -> Result<&'a
 
 /// Writes a line for each record in the data of a reply to `ReadRecords`, one behind the other, all or none.
 ///
-/// Refused as [`line`] is.
+/// Refused as [`line()`] is.
 pub fn lines<'a>(block: &Block, data: &[u8], out: &'a mut [u8]) -> Result<&'a [u8], Refusal> {
     let code = raw::lines(block, data, out);
     written(code, out)

@@ -20,8 +20,8 @@ unfoldable pub maskOf : ℕ → ℕ
 maskOf mask = cond (ltb mask 256) mask 0
 
 -- 0 standard, 1 advanced
-unfoldable pub kindOf : ℕ → Kind
-kindOf kind = cond (eqb kind 0) Standard Advanced
+unfoldable pub kindNamed : ℕ → Kind
+kindNamed kind = cond (eqb kind 0) Standard Advanced
 
 -- what a command asks with three numbers: CFG-ADR, password or k is the first; hour, minute, milliseconds
 abbrev pub askWith : Command → ℕ → ℕ → ℕ → Ask
@@ -56,7 +56,7 @@ whole kind control bytes = ltb kind 2 && (not (eqb control 0x81) || eqb (length 
 unfoldable pub requestOf : ℕ → ℕ → ℕ → ℕ → ℕ → ℕ → List ℕ → Request
 requestOf kind desk control a b c bytes =
     record {
-      kind = kindOf kind;
+      kind = kindNamed kind;
       desk = desk;
       ask = cond (whole kind control bytes) (askOf (known control) a b c) noAsk;
       bytes = blockTold bytes .bytes;

@@ -7,10 +7,10 @@ use rules::Known;
 ghost use mathlib.Core.Path.{_≡_};
 ghost use mathlib.Core.Bool.{cond};
 ghost use Rattle.rules.specs.Control.{known};
-ghost use Rattle.depot_c.specs.Numbers.{kindOf, askWith, noAsk, askOf, whole, requestOf};
+ghost use Rattle.depot_c.specs.Numbers.{kindNamed, askWith, noAsk, askOf, whole, requestOf};
 
 fn kind_of(kind: u64) -> Kind
-    ensures { λ r. ⌜ r ≡ kindOf kind ⌝ }
+    ensures { λ r. ⌜ r ≡ kindNamed kind ⌝ }
 {
     if kind == 0 {
         return Kind::Standard;
