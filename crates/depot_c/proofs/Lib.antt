@@ -1,0 +1,5 @@
+pub mod Fits
+pub mod Lengths
+pub mod NoRequest
+pub mod Once
+pub mod Told

@@ -1,0 +1,63 @@
+-- How numbers and lent octets become what the calls take. Assumes nothing.
+use Prim.Native.Nat.{ℕ}
+use mathlib.Core.Bool.{Bool, cond, not, _&&_, _||_}
+use mathlib.Core.List.{List}
+use lib.ListN.{length}
+use lib.Dec.{eqb, ltb}
+use Rattle.frame.specs.declared.Kind.{Kind}
+use Rattle.frame.specs.declared.Kind.the-variants.{Standard, Advanced}
+use Rattle.rules.specs.declared.Command.{Command}
+use Rattle.rules.specs.declared.Command.the-variants.{Baud, Reset, SystemReset, ReadBlock, WriteBlock, SaveBlocks, RestoreBlocks, SetTimer, SendTimer, Login, ReadRecords, SendTable, RemoveRecords, ClearRecords}
+use Rattle.rules.specs.declared.Known.{Known}
+use Rattle.rules.specs.declared.Known.the-variants.{Listed, Unknown}
+use Rattle.rules.specs.Control.{known}
+use Rattle.host.specs.declared.Ask.{Ask}
+use Rattle.host.specs.declared.Request.{Request}
+use Rattle.host.specs.Typed.{blockTold}
+
+-- an antenna mask is one octet; a larger number is as the mask 0, which a sighting refuses with 6
+unfoldable pub maskOf : ℕ → ℕ
+maskOf mask = cond (ltb mask 256) mask 0
+
+-- 0 standard, 1 advanced
+unfoldable pub kindNamed : ℕ → Kind
+kindNamed kind = cond (eqb kind 0) Standard Advanced
+
+-- what a command asks with three numbers: CFG-ADR, password or k is the first; hour, minute, milliseconds
+abbrev pub askWith : Command → ℕ → ℕ → ℕ → Ask
+askWith Baud a b c = Ask.Baud a
+askWith Reset a b c = Ask.Reset
+askWith SystemReset a b c = Ask.SystemReset
+askWith ReadBlock a b c = Ask.ReadBlock a
+askWith WriteBlock a b c = Ask.WriteBlock a
+askWith SaveBlocks a b c = Ask.SaveBlocks a
+askWith RestoreBlocks a b c = Ask.RestoreBlocks a
+askWith SetTimer a b c = Ask.SetTimer a b c
+askWith SendTimer a b c = Ask.SendTimer
+askWith Login a b c = Ask.Login a
+askWith ReadRecords a b c = Ask.ReadRecords a
+askWith SendTable a b c = Ask.SendTable
+askWith RemoveRecords a b c = Ask.RemoveRecords
+askWith ClearRecords a b c = Ask.ClearRecords
+
+-- what is no request is read as one whose value its field can't hold: the maker refuses it with 6, the reader with 8
+abbrev pub noAsk : Ask
+noAsk = Ask.Baud 256
+
+abbrev pub askOf : Known → ℕ → ℕ → ℕ → Ask
+askOf (Listed row) a b c = askWith (row .command) a b c
+askOf Unknown a b c = noAsk
+
+-- a frame kind is named, and a write has its fourteen bytes
+unfoldable pub whole : ℕ → ℕ → List ℕ → Bool
+whole kind control bytes = ltb kind 2 && (not (eqb control 0x81) || eqb (length bytes) 14)
+
+-- the request that the numbers name
+unfoldable pub requestOf : ℕ → ℕ → ℕ → ℕ → ℕ → ℕ → List ℕ → Request
+requestOf kind desk control a b c bytes =
+    record {
+      kind = kindNamed kind;
+      desk = desk;
+      ask = cond (whole kind control bytes) (askOf (known control) a b c) noAsk;
+      bytes = blockTold bytes .bytes;
+    }

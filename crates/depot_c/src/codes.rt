@@ -1,0 +1,56 @@
+// The number of an answer.
+use depot::Answer;
+use host::Read;
+use rules::Seen;
+use rules::Written;
+ghost use mathlib.Core.Path.{_≡_};
+ghost use Prim.Native.Nat.{_<_, _^_};
+ghost use Rattle.depot_c.specs.Codes.{seenCode, codeOf, writtenCode, readCode};
+
+fn seen_code(w: Seen) -> u64
+    ensures { λ r. ⌜ r ≡ seenCode w ⌝ }
+{
+    match w {
+        Seen::Ignored => 16,
+        Seen::Lost => 17,
+        Seen::Recorded => 18,
+    }
+}
+
+// Of the box.
+pub fn answer_code(a: Answer) -> u64
+    requires { ⌜ codeOf a < 2 ^ 64 ⌝ }
+    ensures { λ r. ⌜ r ≡ codeOf a ⌝ }
+{
+    match a {
+        Answer::Done => 0,
+        Answer::Refused(r) => r.number() as u64,
+        Answer::Sighted(w) => seen_code(w),
+        Answer::Reply(n) => 256 + n as u64,
+    }
+}
+
+// Of the maker and the line writer.
+pub fn written_code(w: Written) -> u64
+    requires { ⌜ writtenCode w < 2 ^ 64 ⌝ }
+    ensures { λ r. ⌜ r ≡ writtenCode w ⌝ }
+{
+    match w {
+        Written::Refused(r) => r.number() as u64,
+        Written::Octets(n) => 256 + n as u64,
+    }
+}
+
+// Of the reader.
+pub fn read_code(a: Read) -> u64
+    requires { ⌜ readCode a < 2 ^ 64 ⌝ }
+    ensures { λ r. ⌜ r ≡ readCode a ⌝ }
+{
+    match a {
+        Read::Refused(r) => r.number() as u64,
+        Read::Sound(t) => 4294967296
+            + t.status as u64 * 16777216
+            + t.start as u64 * 65536
+            + t.len as u64,
+    }
+}

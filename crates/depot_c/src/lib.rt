@@ -1,0 +1,149 @@
+// The calls for C and Rust: numbers and lent octets go in, a number comes back. A refused call writes nothing.
+use codes::answer_code;
+use codes::read_code;
+use codes::written_code;
+use frame::Refusal;
+use request::request_of;
+use rules::Written;
+ghost use mathlib.Core.Path.{_≡_};
+ghost use mathlib.Core.List.{[]};
+ghost use lib.ListN.{length};
+ghost use Rattle.rules.specs.Box.{Event};
+ghost use Rattle.rules.specs.Line.{line};
+ghost use Rattle.lines.specs.Lines.{linesOf};
+ghost use Rattle.host.specs.Reader.{readAs};
+ghost use Rattle.depot_c.specs.Codes.{readCode};
+ghost use Rattle.depot_c.specs.Numbers.{maskOf, requestOf};
+ghost use Rattle.depot_c.specs.Coded.{CalledAs, MadeAs, WroteAs, FramedAs, lineTests, linesTests};
+
+mod codes;
+mod request;
+
+// ---- the box
+
+// Makes a fresh store.
+#[no_mangle]
+pub extern "C" fn depot_fresh(store: &mut [u8]) -> u64
+    ensures { λ r. ⌜ MadeAs (now (store .entry)) r (now (store .exit)) ⌝ }
+{
+    answer_code(depot::fresh(store))
+}
+
+// A frame arrives.
+#[no_mangle]
+pub extern "C" fn depot_frame(store: &mut [u8], frame: &[u8], out: &mut [u8]) -> u64
+    ensures { λ r. ⌜ CalledAs (Event.frame (now (frame .entry)) (length (now (out .entry)))) (now (store .entry)) (now (out .entry)) r (now (store .exit)) (now (out .exit)) ⌝ }
+{
+    answer_code(depot::frame(store, frame, out))
+}
+
+// The octet of an antenna mask: 0, which is refused, for a number that is none.
+fn mask_of(mask: u64) -> u8
+    ensures { λ r. ⌜ r ≡ maskOf mask ⌝ }
+{
+    if mask < 256 {
+        return mask as u8;
+    }
+    0
+}
+
+// A tag is sighted at a desk.
+#[no_mangle]
+pub extern "C" fn depot_sighting(store: &mut [u8], desk: u64, uid: u64, mask: u64) -> u64
+    ensures { λ r. ⌜ CalledAs (Event.sighting desk uid (maskOf mask)) (now (store .entry)) [] r (now (store .exit)) [] ⌝ }
+{
+    answer_code(depot::sighting(store, desk, uid, mask_of(mask)))
+}
+
+// A tick of 100 ms passes for all desks.
+#[no_mangle]
+pub extern "C" fn depot_tick(store: &mut [u8]) -> u64
+    ensures { λ r. ⌜ CalledAs Event.tick (now (store .entry)) [] r (now (store .exit)) [] ⌝ }
+{
+    answer_code(depot::tick(store))
+}
+
+// ---- the host side
+
+// Makes a request.
+#[no_mangle]
+pub extern "C" fn depot_make(
+    kind: u64,
+    desk: u64,
+    control: u8,
+    a: u64,
+    b: u64,
+    c: u64,
+    bytes: &[u8],
+    out: &mut [u8],
+) -> u64
+    ensures { λ r. ⌜ FramedAs (requestOf kind desk control a b c (now (bytes .entry))) (now (out .entry)) r (now (out .exit)) ⌝ }
+{
+    let q = request_of(kind, desk, control, a, b, c, bytes);
+    written_code(host::maker::make(q, out))
+}
+
+// Reads the reply to a request.
+#[no_mangle]
+pub extern "C" fn depot_read(
+    kind: u64,
+    desk: u64,
+    control: u8,
+    a: u64,
+    b: u64,
+    c: u64,
+    bytes: &[u8],
+    reply: &[u8],
+) -> u64
+    ensures { λ r. ⌜ r ≡ readCode (readAs (requestOf kind desk control a b c (now (bytes .entry))) (now (reply .entry))) ⌝ }
+{
+    let q = request_of(kind, desk, control, a, b, c, bytes);
+    read_code(host::reader::read(q, reply))
+}
+
+// ---- scan lines
+
+// Fourteen octets, by value.
+fn fourteen(s: &[u8]) -> [u8; 14]
+    requires { ⌜ length (now s) ≡ 14 ⌝ }
+    ensures { λ r. ⌜ r ≡ now (s .entry) ⌝ }
+{
+    let mut r = [0; 14];
+    octets::copy_to(&mut r, 0, s);
+    r
+}
+
+// Thirteen octets, by value.
+fn thirteen(s: &[u8]) -> [u8; 13]
+    requires { ⌜ length (now s) ≡ 13 ⌝ }
+    ensures { λ r. ⌜ r ≡ now (s .entry) ⌝ }
+{
+    let mut r = [0; 13];
+    octets::copy_to(&mut r, 0, s);
+    r
+}
+
+// Writes the line of one record.
+#[no_mangle]
+pub extern "C" fn depot_line(block: &[u8], sighted: &[u8], out: &mut [u8]) -> u64
+    ensures { λ r. ⌜ WroteAs (lineTests (now (block .entry)) (now (sighted .entry)) (line (now (block .entry)) (now (sighted .entry))) (now (out .entry))) (line (now (block .entry)) (now (sighted .entry))) (now (out .entry)) r (now (out .exit)) ⌝ }
+{
+    if sighted.len() != 13 {
+        return written_code(Written::Refused(Refusal::OutOfRange));
+    }
+    if block.len() != 14 {
+        return written_code(Written::Refused(Refusal::OutOfRange));
+    }
+    written_code(lines::line(fourteen(block), thirteen(sighted), out))
+}
+
+// Writes a line for each record that the data of a 0x22 reply carry, all or none.
+#[no_mangle]
+pub extern "C" fn depot_lines(block: &[u8], sent: &[u8], out: &mut [u8]) -> u64
+    ensures { λ r. ⌜ WroteAs (linesTests (now (block .entry)) (linesOf (now (block .entry)) (now (sent .entry))) (now (out .entry))) (linesOf (now (block .entry)) (now (sent .entry))) (now (out .entry)) r (now (out .exit)) ⌝ }
+{
+    if block.len() != 14 {
+        return written_code(Written::Refused(Refusal::OutOfRange));
+    }
+    written_code(lines::lines(fourteen(block), sent, out))
+}

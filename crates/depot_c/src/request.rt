@@ -1,0 +1,100 @@
+// Numbers and octets, read as a request.
+use frame::Kind;
+use host::Ask;
+use host::Request;
+use rules::Command;
+use rules::Known;
+ghost use mathlib.Core.Path.{_≡_};
+ghost use mathlib.Core.Bool.{cond};
+ghost use Rattle.rules.specs.Control.{known};
+ghost use Rattle.depot_c.specs.Numbers.{kindNamed, askWith, noAsk, askOf, whole, requestOf};
+
+fn kind_of(kind: u64) -> Kind
+    ensures { λ r. ⌜ r ≡ kindNamed kind ⌝ }
+{
+    if kind == 0 {
+        return Kind::Standard;
+    }
+    Kind::Advanced
+}
+
+// What a command asks with three numbers.
+fn ask_with(command: Command, a: u64, b: u64, c: u64) -> Ask
+    ensures { λ r. ⌜ r ≡ askWith command a b c ⌝ }
+{
+    match command {
+        Command::Baud => Ask::Baud(a),
+        Command::Reset => Ask::Reset,
+        Command::SystemReset => Ask::SystemReset,
+        Command::ReadBlock => Ask::ReadBlock(a),
+        Command::WriteBlock => Ask::WriteBlock(a),
+        Command::SaveBlocks => Ask::SaveBlocks(a),
+        Command::RestoreBlocks => Ask::RestoreBlocks(a),
+        Command::SetTimer => Ask::SetTimer(a, b, c),
+        Command::SendTimer => Ask::SendTimer,
+        Command::Login => Ask::Login(a),
+        Command::ReadRecords => Ask::ReadRecords(a),
+        Command::SendTable => Ask::SendTable,
+        Command::RemoveRecords => Ask::RemoveRecords,
+        Command::ClearRecords => Ask::ClearRecords,
+    }
+}
+
+// What a control byte and three numbers ask.
+fn ask_of(control: u8, a: u64, b: u64, c: u64) -> Ask
+    ensures { λ r. ⌜ r ≡ askOf (known control) a b c ⌝ }
+{
+    match desk::control::decide(control) {
+        Known::Listed(row) => {
+            let command = row.command;
+            ask_with(command, a, b, c)
+        }
+        Known::Unknown => Ask::Baud(256),
+    }
+}
+
+// Whether a frame kind is named, and a write has its fourteen bytes.
+fn is_whole(kind: u64, control: u8, bytes: &[u8]) -> bool
+    ensures { λ r. ⌜ r ≡ whole kind control (now (bytes .entry)) ⌝ }
+{
+    if kind >= 2 {
+        return false;
+    }
+    if control != 0x81 {
+        return true;
+    }
+    bytes.len() == 14
+}
+
+// That of a whole request; what is none is one whose value its field can't hold.
+fn ask_if(whole: bool, control: u8, a: u64, b: u64, c: u64) -> Ask
+    ensures { λ r. ⌜ r ≡ cond whole (askOf (known control) a b c) noAsk ⌝ }
+{
+    if whole {
+        return ask_of(control, a, b, c);
+    }
+    Ask::Baud(256)
+}
+
+// The request that the numbers name.
+pub fn request_of(
+    kind: u64,
+    desk: u64,
+    control: u8,
+    a: u64,
+    b: u64,
+    c: u64,
+    bytes: &[u8],
+) -> Request
+    ensures { λ r. ⌜ r ≡ requestOf kind desk control a b c (now (bytes .entry)) ⌝ }
+{
+    let block = host::typed::block_in(bytes);
+    let fourteen = block.bytes;
+    let ask = ask_if(is_whole(kind, control, bytes), control, a, b, c);
+    Request {
+        kind: kind_of(kind),
+        desk,
+        ask: ask,
+        bytes: fourteen,
+    }
+}

@@ -1,0 +1,161 @@
+/*
+ * depot.h: the shared depot box, its host side and its scan lines, for C.
+ *
+ * Link target/staticlib/libdepot_c.a, which ./lib at the root builds. Every function below is proved to keep its promise
+ * (crates/depot_c): for any numbers and any octets it ends with one of the answers named here, and a refused call leaves
+ * every octet that it was lent as it was.
+ *
+ * What the caller owes, and no proof can give: a pointer is never NULL and points to as many octets as the length behind it
+ * says (a length of 0 is fine, with a pointer to anything), and an output overlaps no other buffer of the call.
+ *
+ * There is no hidden state: the box is the store, 16384 octets that the caller keeps. Two stores are two boxes.
+ */
+#ifndef DEPOT_H
+#define DEPOT_H
+
+#include <stddef.h>
+#include <stdint.h>
+
+#ifdef __cplusplus
+extern "C" {
+#endif
+
+/* ---- sizes, in octets */
+
+#define DEPOT_STORE_SIZE 16384  /* a store */
+#define DEPOT_REPLY_SIZE 842    /* the shortest output that depot_frame takes; the longest frame */
+#define DEPOT_BLOCK_SIZE 14     /* a configuration block */
+#define DEPOT_RECORD_SIZE 13    /* a record: UID 8, timer 4, antenna mask 1 */
+#define DEPOT_DESKS 8           /* desks 0 to 7 */
+
+/* ---- answers */
+
+#define DEPOT_DONE 0            /* done, and there is nothing to say */
+
+/* a refusal is below 16, by its number in the paper */
+#define DEPOT_UNSOUND 1         /* the store has the wrong size, or is not sound */
+#define DEPOT_SMALL_BUFFER 2    /* the reply buffer is shorter than 842 */
+#define DEPOT_WRONG_LENGTH 3    /* a frame shorter or longer than its kind allows, or its length field differs */
+#define DEPOT_WRONG_CHECK 4     /* the CRC is wrong */
+#define DEPOT_NO_DESK 5         /* a desk above 7 */
+#define DEPOT_OUT_OF_RANGE 6    /* an argument out of range */
+#define DEPOT_NO_ROOM 7         /* the output has too little room */
+#define DEPOT_NOT_THE_REPLY 8   /* a sound frame that does not answer the request */
+
+/* what a sighting came to */
+#define DEPOT_IGNORED 16        /* the UID is locked at this desk */
+#define DEPOT_LOST 17           /* the desk holds 64 records; the overflow mark is set */
+#define DEPOT_RECORDED 18
+
+#define DEPOT_REFUSED(code) ((code) >= 1 && (code) <= 8)
+
+/* 256 + n: n octets stand at the start of the output */
+#define DEPOT_WRITTEN(code) ((code) >= 256)
+#define DEPOT_LENGTH(code) ((size_t)((code) - 256))
+
+/* what the reader tells: 2^32 + status * 2^24 + start * 2^16 + len */
+#define DEPOT_READ(code) ((code) >= UINT64_C(4294967296))
+#define DEPOT_STATUS(code) ((uint8_t)((code) >> 24 & 255))
+#define DEPOT_START(code) ((size_t)((code) >> 16 & 255))
+#define DEPOT_DATA_LENGTH(code) ((size_t)((code) & 65535))
+
+/* ---- frame kinds and control bytes, for depot_make and depot_read */
+
+#define DEPOT_STANDARD 0
+#define DEPOT_ADVANCED 1
+
+#define DEPOT_BAUD 0x52           /* a: 0 */
+#define DEPOT_RESET 0x63
+#define DEPOT_SYSTEM_RESET 0x64
+#define DEPOT_READ_BLOCK 0x80     /* a: CFG-ADR */
+#define DEPOT_WRITE_BLOCK 0x81    /* a: CFG-ADR; bytes: the fourteen */
+#define DEPOT_SAVE_BLOCKS 0x82    /* a: CFG-ADR */
+#define DEPOT_RESTORE_BLOCKS 0x83 /* a: CFG-ADR */
+#define DEPOT_SET_TIMER 0x85      /* a: hour; b: minute; c: milliseconds */
+#define DEPOT_SEND_TIMER 0x86
+#define DEPOT_LOGIN 0xA0          /* a: the password, four octets as a number, most significant first */
+#define DEPOT_READ_RECORDS 0x22   /* a: how many */
+#define DEPOT_SEND_TABLE 0x31
+#define DEPOT_REMOVE_RECORDS 0x32
+#define DEPOT_CLEAR_RECORDS 0x33
+
+#define DEPOT_EEPROM 0x80         /* bit 7 of CFG-ADR: the EEPROM blocks, and not those in RAM */
+#define DEPOT_ALL_BLOCKS 0x40     /* bit 6 of CFG-ADR: all blocks, in 0x82 and 0x83 */
+
+/* ---- the box */
+
+/*
+ * Makes a fresh store: defaults in both memories of each desk, nobody logged in, no records, no locks, timer 0.
+ * Answers: DEPOT_DONE; DEPOT_UNSOUND where store_len is not 16384.
+ * Afterwards: done, every octet of the store is that of a fresh one, whatever stood there; refused, all is as before.
+ */
+uint64_t depot_fresh(uint8_t *store, size_t store_len);
+
+/*
+ * A frame arrives on the line, and the desk that it names answers.
+ * Answers: 256 + n, a reply of n octets; refusals 1, 2, 3, 4, 5, the least that fits.
+ * Afterwards: answered, the reply stands in out[0] to out[n - 1], the octets behind it are as before, and the store is sound
+ * and holds what the command did; refused, store and output are as before.
+ */
+uint64_t depot_frame(uint8_t *store, size_t store_len, const uint8_t *frame, size_t frame_len, uint8_t *out, size_t out_len);
+
+/*
+ * A tag is sighted at a desk by the antennas of a mask from 1 to 255.
+ * Answers: DEPOT_IGNORED, DEPOT_LOST, DEPOT_RECORDED; refusals 1, 5, 6 (a mask of 0 or above 255), the least that fits.
+ * Afterwards: the store is sound and holds what the sighting did; refused, it is as before.
+ */
+uint64_t depot_sighting(uint8_t *store, size_t store_len, uint64_t desk, uint64_t uid, uint64_t mask);
+
+/*
+ * 100 ms pass for all desks.
+ * Answers: DEPOT_DONE; DEPOT_UNSOUND.
+ * Afterwards: the store is sound, all timers and locks have moved on; refused, it is as before.
+ */
+uint64_t depot_tick(uint8_t *store, size_t store_len);
+
+/* ---- the host side */
+
+/*
+ * Makes a request: the frame that asks a desk for what control, a, b and c say. Numbers that a command does not have are not
+ * looked at, and bytes only by DEPOT_WRITE_BLOCK (elsewhere any length is fine, 0 too).
+ * Answers: 256 + n, a frame of n octets; refusals, the least that fits:
+ *   5  a desk above 7, whatever the rest is
+ *   6  a kind that is neither 0 nor 1; a control byte that is none of the fourteen; a write whose bytes_len is not 14;
+ *      a number that its field can't hold, or that a logged-in desk would answer 0x11
+ *   7  the frame does not fit in out_len octets
+ * Afterwards: made, the frame stands at the start of out and the octets behind it are as before; refused, out is as before.
+ */
+uint64_t depot_make(uint64_t kind, uint64_t desk, uint8_t control, uint64_t a, uint64_t b, uint64_t c, const uint8_t *bytes, size_t bytes_len, uint8_t *out, size_t out_len);
+
+/*
+ * Reads the reply to a request, which is given by the same arguments as to depot_make.
+ * Answers: DEPOT_READ: the status is DEPOT_STATUS, and the data are DEPOT_DATA_LENGTH octets from reply[DEPOT_START] on;
+ * refusals 3, 4, 8, the least that fits. 8 is given where kind, address or control byte differ, where no sound store answers
+ * that request with that status and data length, where a record count does not fit the length, and to what is no request.
+ * Nothing is written.
+ */
+uint64_t depot_read(uint64_t kind, uint64_t desk, uint8_t control, uint64_t a, uint64_t b, uint64_t c, const uint8_t *bytes, size_t bytes_len, const uint8_t *reply, size_t reply_len);
+
+/* ---- scan lines */
+
+/*
+ * Writes the line of a record as block 7 shapes it.
+ * Answers: 256 + n, a line of n octets; refusals, the least that fits:
+ *   6  block_len is not 14 or record_len is not 13; the block breaks the rules of block 7
+ *   7  the line does not fit in out_len octets
+ * Afterwards: written, the line stands at the start of out and the octets behind it are as before; refused, out is as before.
+ */
+uint64_t depot_line(const uint8_t *block, size_t block_len, const uint8_t *record, size_t record_len, uint8_t *out, size_t out_len);
+
+/*
+ * Writes a line for each record in the data of a reply to DEPOT_READ_RECORDS, one behind the other, all or none.
+ * sent is those data: the count in two octets, then the records; only as many as its length has are written.
+ * Answers, and afterwards: as depot_line, with no test of record_len.
+ */
+uint64_t depot_lines(const uint8_t *block, size_t block_len, const uint8_t *sent, size_t sent_len, uint8_t *out, size_t out_len);
+
+#ifdef __cplusplus
+}
+#endif
+
+#endif

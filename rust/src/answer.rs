@@ -1,0 +1,123 @@
+//! What the calls answer, and how a code is read.
+use std::fmt;
+
+/// Why a call is refused, by the paper's number. A refused call leaves every octet that it was lent as it was.
+#[derive(Clone, Copy, Debug, PartialEq, Eq, Hash)]
+pub enum Refusal {
+    /// The store has the wrong size, or is not sound.
+    Unsound = 1,
+    /// The reply buffer is shorter than 842.
+    SmallBuffer = 2,
+    /// A frame is shorter or longer than its kind allows, or its length field differs from its length.
+    WrongLength = 3,
+    /// The CRC is wrong.
+    WrongCheck = 4,
+    /// A desk above 7.
+    NoDesk = 5,
+    /// An argument out of range.
+    OutOfRange = 6,
+    /// The output has too little room.
+    NoRoom = 7,
+    /// A sound frame that does not answer the request.
+    NotTheReply = 8,
+}
+
+impl Refusal {
+    /// The paper's number.
+    ///
+    /// ```
+    /// assert_eq!(depot::Refusal::NoDesk.number(), 5);
+    /// ```
+    pub fn number(self) -> u8 {
+        self as u8
+    }
+
+    /// The refusal of that number.
+    pub fn of(code: u64) -> Option<Refusal> {
+        Some(match code {
+            1 => Refusal::Unsound,
+            2 => Refusal::SmallBuffer,
+            3 => Refusal::WrongLength,
+            4 => Refusal::WrongCheck,
+            5 => Refusal::NoDesk,
+            6 => Refusal::OutOfRange,
+            7 => Refusal::NoRoom,
+            8 => Refusal::NotTheReply,
+            _ => return None,
+        })
+    }
+}
+
+impl fmt::Display for Refusal {
+    fn fmt(&self, f: &mut fmt::Formatter) -> fmt::Result {
+        let why = match self {
+            Refusal::Unsound => "the store has the wrong size or is not sound",
+            Refusal::SmallBuffer => "the reply buffer is shorter than 842",
+            Refusal::WrongLength => "the frame has a wrong length",
+            Refusal::WrongCheck => "the frame's CRC is wrong",
+            Refusal::NoDesk => "there is no desk above 7",
+            Refusal::OutOfRange => "an argument is out of range",
+            Refusal::NoRoom => "the output has too little room",
+            Refusal::NotTheReply => "this is no reply to the request",
+        };
+        write!(f, "refused {}: {}", self.number(), why)
+    }
+}
+
+impl std::error::Error for Refusal {}
+
+/// What a sighting came to.
+#[derive(Clone, Copy, Debug, PartialEq, Eq, Hash)]
+pub enum Seen {
+    /// The UID is locked at this desk.
+    Ignored,
+    /// The desk holds 64 records, and its overflow mark is set.
+    Lost,
+    Recorded,
+}
+
+/// No code of this library is any other than those that its header names: that is proved.
+pub(crate) fn unnamed(code: u64) -> ! {
+    unreachable!("the proved library gives no such code: {code}")
+}
+
+/// Nothing to say, or a refusal.
+pub(crate) fn done(code: u64) -> Result<(), Refusal> {
+    if code == 0 {
+        return Ok(());
+    }
+    Err(Refusal::of(code).unwrap_or_else(|| unnamed(code)))
+}
+
+pub(crate) fn seen(code: u64) -> Result<Seen, Refusal> {
+    match code {
+        16 => Ok(Seen::Ignored),
+        17 => Ok(Seen::Lost),
+        18 => Ok(Seen::Recorded),
+        _ => Err(Refusal::of(code).unwrap_or_else(|| unnamed(code))),
+    }
+}
+
+/// The octets at the start of the output, or a refusal.
+pub(crate) fn written(code: u64, out: &[u8]) -> Result<&[u8], Refusal> {
+    if code < 256 {
+        return Err(Refusal::of(code).unwrap_or_else(|| unnamed(code)));
+    }
+    Ok(&out[..(code - 256) as usize])
+}
+
+/// What a reply says: its status, and its data where they stand in the reply.
+#[derive(Clone, Copy, Debug, PartialEq, Eq)]
+pub struct Told<'a> {
+    pub status: u8,
+    pub data: &'a [u8],
+}
+
+pub(crate) fn told(code: u64, reply: &[u8]) -> Result<Told<'_>, Refusal> {
+    if code < 1 << 32 {
+        return Err(Refusal::of(code).unwrap_or_else(|| unnamed(code)));
+    }
+    let start = (code >> 16 & 255) as usize;
+    let len = (code & 65535) as usize;
+    Ok(Told { status: (code >> 24 & 255) as u8, data: &reply[start..start + len] })
+}

@@ -1,0 +1,236 @@
+//! Each call with each of its answers, over any numbers and octets. A refused call leaves every lent octet as it was, and a call
+//! that writes leaves the octets behind what it wrote: the outputs are longer than they need to be, and filled with a guard.
+use depot::raw::{self, Asked};
+use depot::{Record, Refusal, Store, DEFAULT_BLOCK_7, REPLY_SIZE, STORE_SIZE};
+
+const GUARD: u8 = 0xA5;
+const RESET: [u8; 5] = [0x05, 0x00, 0x64, 0xAC, 0x25];
+const RESET_REPLY: [u8; 6] = [0x06, 0x00, 0x64, 0x00, 0x8E, 0x4A];
+const UID: u64 = 0xE007_0000_0164_5E37;
+const RECORD: [u8; 13] = [0xE0, 0x07, 0, 0, 0x01, 0x64, 0x5E, 0x37, 0x01, 0x02, 0x03, 0xE8, 1];
+const LINE: &[u8] = b"E007000001645E37,010203E8\r\n";
+
+fn fresh() -> Vec<u8> {
+    Store::fresh().octets().to_vec()
+}
+
+fn guard(n: usize) -> Vec<u8> {
+    vec![GUARD; n]
+}
+
+fn refused(code: u64, wanted: Refusal) {
+    assert_eq!(Refusal::of(code), Some(wanted), "code {code}");
+    assert_eq!(code, wanted.number() as u64);
+}
+
+/// The octets that a call wrote at the start of a guarded output.
+fn wrote(code: u64, out: &[u8]) -> &[u8] {
+    assert!(code >= 256, "code {code}");
+    let n = (code - 256) as usize;
+    assert!(out[n..].iter().all(|o| *o == GUARD), "the octets behind stay");
+    &out[..n]
+}
+
+/// A call that must be refused, with store and output as before.
+fn box_refuses(store: &[u8], out_len: usize, wanted: Refusal, call: impl Fn(&mut [u8], &mut [u8]) -> u64) {
+    let (mut s, mut out) = (store.to_vec(), guard(out_len));
+    refused(call(&mut s, &mut out), wanted);
+    assert!(s == store, "the store stays");
+    assert!(out == guard(out_len), "the output stays");
+}
+
+fn reset() -> Asked<'static> {
+    Asked { kind: 0, desk: 0, control: 0x64, a: 0, b: 0, c: 0, bytes: &[] }
+}
+
+// ---- the box
+
+#[test]
+fn fresh_is_of_any_octets() {
+    let mut s = guard(STORE_SIZE);
+    assert_eq!(raw::fresh(&mut s), 0);
+    assert_eq!(s, fresh());
+}
+
+#[test]
+fn fresh_refuses_another_size() {
+    for n in [0, 1, STORE_SIZE - 1, STORE_SIZE + 1] {
+        box_refuses(&guard(n), 0, Refusal::Unsound, |s, _| raw::fresh(s));
+    }
+}
+
+#[test]
+fn frame_is_answered() {
+    let (mut s, mut out) = (fresh(), guard(REPLY_SIZE + 8));
+    let code = raw::frame(&mut s, &RESET, &mut out);
+    assert_eq!(wrote(code, &out), RESET_REPLY);
+    assert_eq!(s, fresh());
+}
+
+#[test]
+fn frame_refuses() {
+    let s = fresh();
+    box_refuses(&guard(STORE_SIZE), REPLY_SIZE, Refusal::Unsound, |s, out| raw::frame(s, &RESET, out));
+    box_refuses(&s[1..], REPLY_SIZE, Refusal::Unsound, |s, out| raw::frame(s, &RESET, out));
+    box_refuses(&s, REPLY_SIZE - 1, Refusal::SmallBuffer, |s, out| raw::frame(s, &RESET, out));
+    box_refuses(&s, REPLY_SIZE, Refusal::WrongLength, |s, out| raw::frame(s, &[], out));
+    box_refuses(&s, REPLY_SIZE, Refusal::WrongCheck, |s, out| raw::frame(s, &[5, 0, 0x64, 0, 0], out));
+    // A reset of desk 8, with the one check that is right: the maker would not make it.
+    let checked = |n: u16| [5, 8, 0x64, n as u8, (n >> 8) as u8];
+    let right = (0..=0xFFFF).find(|n| raw::frame(&mut s.clone(), &checked(*n), &mut guard(REPLY_SIZE)) != 4);
+    let f = checked(right.expect("a check that is right"));
+    box_refuses(&s, REPLY_SIZE, Refusal::NoDesk, |s, out| raw::frame(s, &f, out));
+}
+
+#[test]
+fn sighting_is_recorded_ignored_lost() {
+    let mut s = fresh();
+    assert_eq!(raw::sighting(&mut s, 7, UID, 255), 18);
+    assert_eq!(raw::sighting(&mut s, 7, UID, 255), 16);
+    for i in 1..64 {
+        assert_eq!(raw::sighting(&mut s, 7, i, 1), 18);
+    }
+    assert_eq!(raw::sighting(&mut s, 7, 64, 1), 17);
+    assert_eq!(raw::sighting(&mut s, 6, 64, 1), 18);
+}
+
+#[test]
+fn sighting_refuses() {
+    let s = fresh();
+    box_refuses(&guard(STORE_SIZE), 0, Refusal::Unsound, |s, _| raw::sighting(s, 8, UID, 0));
+    box_refuses(&s, 0, Refusal::NoDesk, |s, _| raw::sighting(s, 8, UID, 0));
+    box_refuses(&s, 0, Refusal::NoDesk, |s, _| raw::sighting(s, u64::MAX, UID, 1));
+    for mask in [0, 256, 257, u64::MAX] {
+        box_refuses(&s, 0, Refusal::OutOfRange, |s, _| raw::sighting(s, 7, UID, mask));
+    }
+}
+
+#[test]
+fn tick_ends_a_lock() {
+    let mut s = fresh();
+    assert_eq!(raw::sighting(&mut s, 0, UID, 1), 18);
+    for _ in 0..54 {
+        assert_eq!(raw::tick(&mut s), 0);
+    }
+    assert_eq!(raw::sighting(&mut s, 0, UID, 1), 16);
+    assert_eq!(raw::tick(&mut s), 0);
+    assert_eq!(raw::sighting(&mut s, 0, UID, 1), 18);
+    box_refuses(&guard(STORE_SIZE), 0, Refusal::Unsound, |s, _| raw::tick(s));
+}
+
+// ---- the host side
+
+fn made(q: Asked) -> Vec<u8> {
+    let mut out = guard(REPLY_SIZE);
+    let code = raw::make(q, &mut out);
+    wrote(code, &out).to_vec()
+}
+
+fn make_refuses(q: Asked, room: usize, wanted: Refusal) {
+    box_refuses(&[], room, wanted, |_, out| raw::make(q, out));
+}
+
+#[test]
+fn make_makes_each_command() {
+    let q = reset();
+    assert_eq!(made(q), RESET);
+    assert_eq!(made(Asked { kind: 1, ..q }), [0x02, 0x00, 0x07, 0x00, 0x64, 0x27, 0x8F]);
+    for (control, size) in [(0x52, 1), (0x63, 0), (0x86, 0), (0xA0, 4), (0x31, 0), (0x32, 0), (0x33, 0)] {
+        let f = made(Asked { control, ..q });
+        assert_eq!((f.len(), f[2]), (5 + size, control));
+    }
+    for control in [0x80, 0x82, 0x83, 0x22] {
+        assert_eq!(made(Asked { control, a: 5, ..q })[2], control);
+    }
+    assert_eq!(made(Asked { control: 0x85, a: 23, b: 59, c: 59999, ..q })[3..7], [23, 59, 0xEA, 0x5F]);
+    let bytes = b"fourteen bytes";
+    assert_eq!(made(Asked { control: 0x81, a: 0x83, bytes, ..q })[3..18], [&[0x83][..], bytes].concat());
+}
+
+#[test]
+fn make_refuses_in_rising_number() {
+    let q = reset();
+    let none = Asked { kind: 2, control: 0, desk: 8, ..q };
+    make_refuses(none, 0, Refusal::NoDesk);
+    make_refuses(Asked { desk: 7, ..none }, 0, Refusal::OutOfRange);
+    make_refuses(Asked { kind: 2, ..q }, REPLY_SIZE, Refusal::OutOfRange);
+    make_refuses(Asked { kind: 256, ..q }, REPLY_SIZE, Refusal::OutOfRange);
+    let known = [0x52, 0x63, 0x64, 0x80, 0x81, 0x82, 0x83, 0x85, 0x86, 0xA0, 0x22, 0x31, 0x32, 0x33];
+    for control in (0..=255).filter(|c| !known.contains(c)) {
+        make_refuses(Asked { control, ..q }, REPLY_SIZE, Refusal::OutOfRange);
+    }
+    for bytes in [&[][..], &[0; 13], &[0; 15]] {
+        make_refuses(Asked { control: 0x81, a: 3, bytes, ..q }, REPLY_SIZE, Refusal::OutOfRange);
+    }
+    make_refuses(Asked { control: 0x81, a: 7, bytes: &[1; 14], ..q }, REPLY_SIZE, Refusal::OutOfRange);
+    make_refuses(Asked { control: 0x52, a: 1, ..q }, REPLY_SIZE, Refusal::OutOfRange);
+    make_refuses(Asked { control: 0x85, a: 59, b: 23, ..q }, REPLY_SIZE, Refusal::OutOfRange);
+    make_refuses(Asked { control: 0xA0, a: 1 << 32, ..q }, REPLY_SIZE, Refusal::OutOfRange);
+    make_refuses(q, 4, Refusal::NoRoom);
+    assert_eq!(raw::make(q, &mut guard(5)), 256 + 5);
+}
+
+#[test]
+fn read_tells_status_and_data() {
+    assert_eq!(raw::read(reset(), &RESET_REPLY), (1 << 32) + (4 << 16));
+    let q = Asked { kind: 1, desk: 2, control: 0x31, ..reset() };
+    let mut out = guard(REPLY_SIZE);
+    let code = raw::frame(&mut fresh(), &made(q), &mut out);
+    let code = raw::read(q, wrote(code, &out));
+    assert_eq!(code, (1 << 32) + (6 << 16) + 6);
+    assert_eq!(out[6..12], [0, 64, 0, 0, 0, 0]);
+    let q = Asked { control: 0x80, a: 3, ..q };
+    let mut out = guard(REPLY_SIZE);
+    let code = raw::frame(&mut fresh(), &made(q), &mut out);
+    assert_eq!(raw::read(q, wrote(code, &out)), (1 << 32) + (0x13 << 24) + (6 << 16));
+}
+
+#[test]
+fn read_refuses_in_rising_number() {
+    let q = reset();
+    let none = Asked { kind: 2, control: 0, desk: 8, ..q };
+    for q in [q, none] {
+        refused(raw::read(q, &[]), Refusal::WrongLength);
+        refused(raw::read(q, &RESET), Refusal::WrongLength);
+        refused(raw::read(q, &[6, 0, 0x64, 0, 0, 0]), Refusal::WrongCheck);
+    }
+    let others = [none, Asked { kind: 1, ..q }, Asked { kind: 2, ..q }, Asked { desk: 1, ..q }, Asked { control: 0x63, ..q }, Asked { control: 0x81, ..q }];
+    for q in others {
+        refused(raw::read(q, &RESET_REPLY), Refusal::NotTheReply);
+    }
+}
+
+// ---- scan lines
+
+#[test]
+fn line_is_written() {
+    let mut out = guard(40);
+    let code = raw::line(&DEFAULT_BLOCK_7, &RECORD, &mut out);
+    assert_eq!(wrote(code, &out), LINE);
+    let record = Record(RECORD);
+    assert_eq!((record.uid(), record.hour(), record.minute(), record.milliseconds(), record.mask()), (UID, 1, 2, 1000, 1));
+}
+
+#[test]
+fn line_refuses() {
+    let refuses = |block: &[u8], record: &[u8], room, wanted| box_refuses(&[], room, wanted, |_, out| raw::line(block, record, out));
+    refuses(&DEFAULT_BLOCK_7[..13], &RECORD, 40, Refusal::OutOfRange);
+    refuses(&[DEFAULT_BLOCK_7, DEFAULT_BLOCK_7].concat(), &RECORD, 40, Refusal::OutOfRange);
+    refuses(&DEFAULT_BLOCK_7, &RECORD[1..], 40, Refusal::OutOfRange);
+    refuses(&DEFAULT_BLOCK_7, &[], 0, Refusal::OutOfRange);
+    refuses(&[1; 14], &RECORD, 0, Refusal::OutOfRange);
+    refuses(&DEFAULT_BLOCK_7, &RECORD, LINE.len() - 1, Refusal::NoRoom);
+}
+
+#[test]
+fn lines_are_written_all_or_none() {
+    let sent = [&[0, 2][..], &RECORD, &RECORD].concat();
+    let mut out = guard(80);
+    let code = raw::lines(&DEFAULT_BLOCK_7, &sent, &mut out);
+    assert_eq!(wrote(code, &out), [LINE, LINE].concat());
+    assert_eq!(raw::lines(&DEFAULT_BLOCK_7, &[], &mut []), 256);
+    let refuses = |block: &[u8], room, wanted| box_refuses(&[], room, wanted, |_, out| raw::lines(block, &sent, out));
+    refuses(&DEFAULT_BLOCK_7[1..], 80, Refusal::OutOfRange);
+    refuses(&[1; 14], 80, Refusal::OutOfRange);
+    refuses(&DEFAULT_BLOCK_7, 2 * LINE.len() - 1, Refusal::NoRoom);
+}
