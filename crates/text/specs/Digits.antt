@@ -1,0 +1,30 @@
+-- Hex digits in either case, and the octets that they make two by two. Assumes nothing.
+use Prim.Native.Nat.{ℕ, _+_, _-_, _*_}
+use mathlib.Core.Bool.{Bool, cond, _&&_, _||_}
+use mathlib.Core.List.{List, [], _∷_}
+use lib.Dec.{leb}
+
+unfoldable pub between : ℕ → ℕ → ℕ → Bool
+between low high c = leb low c && leb c high
+
+abbrev pub decimal : ℕ → Bool
+decimal c = between 0x30 0x39 c
+
+abbrev pub capital : ℕ → Bool
+capital c = between 0x41 0x46 c
+
+abbrev pub small : ℕ → Bool
+small c = between 0x61 0x66 c
+
+unfoldable pub isHex : ℕ → Bool
+isHex c = decimal c || capital c || small c
+
+-- 0 for what is no digit
+unfoldable pub valueOf : ℕ → ℕ
+valueOf c = cond (decimal c) (c - 0x30) (cond (capital c) (c - 0x37) (cond (small c) (c - 0x57) 0))
+
+-- two digits an octet; a last digit without a second makes none
+unfoldable pub octetsOf : List ℕ → List ℕ
+octetsOf [] = []
+octetsOf (h ∷ []) = []
+octetsOf (h ∷ l ∷ s) = (valueOf h * 16 + valueOf l) ∷ octetsOf s

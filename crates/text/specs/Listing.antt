@@ -1,0 +1,101 @@
+-- The listing: what a line says, and what is printed for it. Assumes nothing.
+use Prim.Native.Nat.{ℕ, _+_, _-_}
+use mathlib.Core.Path.{_≡_}
+use mathlib.Core.Bool.{Bool, false, cond, not, _&&_}
+use mathlib.Core.List.{List, [], _∷_, _++_}
+use lib.ListN.{length, getD, take, drop}
+use lib.Dec.{eqb, ltb}
+use Rattle.octets.specs.Tests.{first, all}
+use Rattle.octets.specs.Parts.{part}
+use Rattle.octets.specs.Numbers.{number}
+use Rattle.frame.specs.declared.Refusal.the-variants.{NoRoom}
+use Rattle.frame.specs.Refusal.{numberOf}
+use Rattle.rules.specs.declared.Seen.{Seen}
+use Rattle.rules.specs.declared.Seen.the-variants.{Ignored, Lost, Recorded}
+use Rattle.rules.specs.declared.Written.{Written}
+use Rattle.rules.specs.Box.{Event}
+use Rattle.rules.specs.Line.{hex}
+use Rattle.rules.specs.Output.{Wrote}
+use Rattle.depot.specs.declared.Answer.{Answer}
+use Rattle.depot.specs.declared.Answer.the-variants.{Refused, Reply, Sighted, Done}
+use Rattle.depot.specs.Called.{Called}
+use Rattle.text.specs.Digits.{decimal, isHex, octetsOf}
+
+-- ---- what a line says
+
+-- a frame's octets; a desk, a UID and an antenna mask; a tick; or a line that is not read
+pub data Line : Type 0 where
+  frame : List ℕ → Line
+  sighting : ℕ → ℕ → ℕ → Line
+  tick : Line
+  notRead : Line
+
+unfoldable pub odd : List ℕ → Bool
+odd [] = false
+odd (c ∷ s) = not (odd s)
+
+-- `t`
+unfoldable pub isTick : List ℕ → Bool
+isTick s = eqb (length s) 1 && eqb (getD s 0 0) 0x74
+
+-- `s`, a decimal desk digit, 16 hex digits and two for the mask, without spaces
+unfoldable pub isSighting : List ℕ → Bool
+isSighting s = eqb (length s) 20 && eqb (getD s 0 0) 0x73 && decimal (getD s 1 0) && all isHex (drop 2 s)
+
+unfoldable pub sightingOf : List ℕ → Line
+sightingOf s = let o = octetsOf (drop 2 s) in sighting (getD s 1 0 - 0x30) (number (part 0 8 o)) (getD o 8 0)
+
+-- a line of which not every octet is a hex digit
+unfoldable pub otherLine : List ℕ → Line
+otherLine s = cond (isTick s) tick (cond (isSighting s) (sightingOf s) notRead)
+
+-- the octets of a line, without its LF; an empty line is an empty frame
+unfoldable pub lineOf : List ℕ → Line
+lineOf s = cond (all isHex s) (cond (odd s) notRead (frame (octetsOf s))) (otherLine s)
+
+-- ---- what is printed
+
+-- `refused ` and its number, LF; the reply in capital hex, LF
+unfoldable pub refusedLine : ℕ → List ℕ
+refusedLine n = 0x72 ∷ 0x65 ∷ 0x66 ∷ 0x75 ∷ 0x73 ∷ 0x65 ∷ 0x64 ∷ 0x20 ∷ (0x30 + n) ∷ 0x0A ∷ []
+
+unfoldable pub hexLine : List ℕ → List ℕ
+hexLine s = hex s ++ (0x0A ∷ [])
+
+-- `ignored`, `lost`, `recorded`
+unfoldable pub seenLine : Seen → List ℕ
+seenLine Ignored = 0x69 ∷ 0x67 ∷ 0x6E ∷ 0x6F ∷ 0x72 ∷ 0x65 ∷ 0x64 ∷ 0x0A ∷ []
+seenLine Lost = 0x6C ∷ 0x6F ∷ 0x73 ∷ 0x74 ∷ 0x0A ∷ []
+seenLine Recorded = 0x72 ∷ 0x65 ∷ 0x63 ∷ 0x6F ∷ 0x72 ∷ 0x64 ∷ 0x65 ∷ 0x64 ∷ 0x0A ∷ []
+
+-- `ok`; `not read`
+unfoldable pub okLine : List ℕ
+okLine = 0x6F ∷ 0x6B ∷ 0x0A ∷ []
+
+unfoldable pub notReadLine : List ℕ
+notReadLine = 0x6E ∷ 0x6F ∷ 0x74 ∷ 0x20 ∷ 0x72 ∷ 0x65 ∷ 0x61 ∷ 0x64 ∷ 0x0A ∷ []
+
+-- an answer of the box, and the reply buffer after it
+unfoldable pub printed : Answer → List ℕ → List ℕ
+printed (Refused r) reply = refusedLine (numberOf r)
+printed (Reply n) reply = hexLine (take n reply)
+printed (Sighted w) reply = seenLine w
+printed Done reply = okLine
+
+-- a text stands at the start of the output, whole; or there is too little room and nothing is written
+abbrev pub Printed : List ℕ → List ℕ → Written → List ℕ → Type 0
+Printed t out r out′ = Wrote (first ((NoRoom, ltb (length out) (length t)) ∷ [])) t out r out′
+
+-- ---- a line is answered: store, reply buffer and output before, how much is printed, and the three after
+
+abbrev pub Answers : Line → List ℕ → List ℕ → List ℕ → Written → List ℕ → List ℕ → List ℕ → Type 0
+Answers (frame f) s reply out r s′ reply′ out′ =
+    (a : Answer) × Called (Event.frame f (length reply)) s reply a s′ reply′ × Printed (printed a reply′) out r out′
+Answers (sighting desk uid mask) s reply out r s′ reply′ out′ =
+    (a : Answer) × Called (Event.sighting desk uid mask) s [] a s′ [] × (reply′ ≡ reply) × Printed (printed a reply) out r out′
+Answers tick s reply out r s′ reply′ out′ =
+    (a : Answer) × Called Event.tick s [] a s′ [] × (reply′ ≡ reply) × Printed (printed a reply) out r out′
+Answers notRead s reply out r s′ reply′ out′ = (s′ ≡ s) × (reply′ ≡ reply) × Printed notReadLine out r out′
+
+pub record Answered (l : Line) (s reply out : List ℕ) (r : Written) (s′ reply′ out′ : List ℕ) : Type 0 where
+  pub answers : Answers l s reply out r s′ reply′ out′

@@ -1,0 +1,49 @@
+-- A line that is read octet by octet in bounded memory: what is held of it, and that this is enough. Assumes nothing.
+use Prim.Native.Nat.{ℕ, _+_, _≤_, min}
+use mathlib.Core.Path.{_≡_}
+use mathlib.Core.Bool.{true, cond, not, _||_}
+use mathlib.Core.List.{List, [], _∷_, _++_}
+use lib.ListN.{length, take, set}
+use lib.Dec.{ltb}
+use Rattle.octets.specs.Tests.{all}
+use Rattle.rules.specs.declared.Written.{Written}
+use Rattle.text.specs.declared.Reading.{Reading}
+use Rattle.text.specs.Digits.{isHex, octetsOf}
+use Rattle.text.specs.Listing.{Line, frame, notRead, odd, otherLine, lineOf, Answered}
+
+-- the first octets of a text are held, as many as there is room for; of all of them is known whether they are more, whether their
+-- number is odd, and whether one is no hex digit
+pub record Fed (text : List ℕ) (at : Reading) (held : List ℕ) : Type 0 where
+  pub count-is : at .held ≡ min (length text) (length held)
+  pub held-is : take (at .held) held ≡ take (length held) text
+  pub over-is : at .over ≡ ltb (length held) (length text)
+  pub odd-is : at .odd ≡ odd text
+  pub bad-is : at .bad ≡ not (all isHex text)
+
+-- the state after one octet more
+unfoldable pub fedOne : ℕ → Reading → ℕ → Reading
+fedOne room at c =
+    record {
+      held = cond (ltb (at .held) room) (at .held + 1) (at .held);
+      over = cond (ltb (at .held) room) (at .over) true;
+      odd = not (at .odd);
+      bad = at .bad || not (isHex c);
+    }
+
+-- an octet is fed: the state and the buffer after it, and that they are those of the text with this octet
+pub record Feeds (c : ℕ) (at : Reading) (held : List ℕ) (r : Reading) (held′ : List ℕ) : Type 0 where
+  pub state-is : r ≡ fedOne (length held) at c
+  pub buffer-is : held′ ≡ set held (at .held) c
+  pub fed : (text : List ℕ) → Fed text at held → Fed (text ++ (c ∷ [])) r held′
+
+-- the line that state and buffer say
+unfoldable pub readOff : Reading → List ℕ → Line
+readOff at held =
+    cond (at .bad)
+    (cond (at .over) notRead (otherLine (take (at .held) held)))
+    (cond (at .odd) notRead (frame (octetsOf (take (at .held) held))))
+
+-- what was read is answered; and where a text was fed into a buffer of 1686 octets or more, its line is answered, however long it is
+pub record Listed (at : Reading) (held s reply out : List ℕ) (r : Written) (s′ reply′ out′ : List ℕ) : Type 0 where
+  pub read : Answered (readOff at held) s reply out r s′ reply′ out′
+  pub whole : (text : List ℕ) → Fed text at held → 1686 ≤ length held → Answered (lineOf text) s reply out r s′ reply′ out′

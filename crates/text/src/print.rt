@@ -1,0 +1,108 @@
+// What is printed for an answer, written at the start of an output: all of it, or nothing.
+use depot::Answer;
+use frame::Refusal;
+use rules::Seen;
+use rules::Written;
+ghost use mathlib.Core.Path.{_≡_};
+ghost use Prim.Native.Nat.{_+_, _*_, _≤_, _<_, min};
+ghost use lib.ListN.{length};
+ghost use Rattle.octets.specs.Parts.{put};
+ghost use Rattle.frame.specs.Refusal.{numberOf};
+ghost use Rattle.rules.specs.Line.{digit, hex};
+ghost use Rattle.text.specs.Listing.{Printed, printed, refusedLine, hexLine, seenLine, notReadLine};
+
+pub fn least(a: usize, b: usize) -> usize
+    ensures { λ r. ⌜ (r ≡ min a b) × (r ≤ a) × (r ≤ b) ⌝ }
+{
+    if a < b { a } else { b }
+}
+
+// Writes a text.
+fn say(text: &[u8], out: &mut [u8]) -> Written
+    ensures { λ r. ⌜ Printed (now (text .entry)) (now (out .entry)) r (now (out .exit)) ⌝ }
+{
+    if out.len() < text.len() {
+        return Written::Refused(Refusal::NoRoom);
+    }
+    octets::copy_to(out, 0, text);
+    Written::Octets(text.len())
+}
+
+// A capital hex digit.
+fn digit_of(n: u8) -> u8
+    requires { ⌜ n < 16 ⌝ }
+    ensures { λ r. ⌜ r ≡ digit n ⌝ }
+{
+    if n < 10 { 0x30 + n } else { 0x37 + n }
+}
+
+// Writes octets as hex digits.
+fn put_hex(s: &[u8], out: &mut [u8])
+    requires { ⌜ 2 * length (now s) ≤ length (now out) ⌝ }
+    ensures { λ _. ⌜ now (out .exit) ≡ put 0 (hex (now (s .entry))) (now (out .entry)) ⌝ }
+{
+    let mut i: usize = 0;
+    while i < s.len() {
+        out[2 * i] = digit_of(s[i] / 16);
+        out[2 * i + 1] = digit_of(s[i] % 16);
+        i += 1;
+    }
+}
+
+// Writes octets as a line of hex digits.
+fn say_hex(s: &[u8], out: &mut [u8]) -> Written
+    ensures { λ r. ⌜ Printed (hexLine (now (s .entry))) (now (out .entry)) r (now (out .exit)) ⌝ }
+{
+    if out.len() == 0 {
+        return Written::Refused(Refusal::NoRoom);
+    }
+    // By division: the product could be too large for a number.
+    if (out.len() - 1) / 2 < s.len() {
+        return Written::Refused(Refusal::NoRoom);
+    }
+    put_hex(s, out);
+    let end = 2 * s.len();
+    out[end] = b'\n';
+    Written::Octets(end + 1)
+}
+
+fn say_refused(why: Refusal, out: &mut [u8]) -> Written
+    ensures { λ r. ⌜ Printed (refusedLine (numberOf why)) (now (out .entry)) r (now (out .exit)) ⌝ }
+{
+    let n = 0x30 + why.number();
+    say(
+        &[b'r', b'e', b'f', b'u', b's', b'e', b'd', b' ', n, b'\n'],
+        out,
+    )
+}
+
+fn say_seen(seen: Seen, out: &mut [u8]) -> Written
+    ensures { λ r. ⌜ Printed (seenLine seen) (now (out .entry)) r (now (out .exit)) ⌝ }
+{
+    match seen {
+        Seen::Ignored => say(b"ignored\n", out),
+        Seen::Lost => say(b"lost\n", out),
+        Seen::Recorded => say(b"recorded\n", out),
+    }
+}
+
+pub fn not_read(out: &mut [u8]) -> Written
+    ensures { λ r. ⌜ Printed notReadLine (now (out .entry)) r (now (out .exit)) ⌝ }
+{
+    say(b"not read\n", out)
+}
+
+// Writes what is printed for an answer of the box, with the reply buffer after it.
+pub fn show(a: Answer, reply: &[u8], out: &mut [u8]) -> Written
+    ensures { λ r. ⌜ Printed (printed a (now (reply .entry))) (now (out .entry)) r (now (out .exit)) ⌝ }
+{
+    match a {
+        Answer::Refused(why) => say_refused(why, out),
+        Answer::Reply(n) => {
+            let m = least(n, reply.len());
+            say_hex(&reply[..m], out)
+        }
+        Answer::Sighted(seen) => say_seen(seen, out),
+        Answer::Done => say(b"ok\n", out),
+    }
+}
