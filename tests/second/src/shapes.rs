@@ -5,13 +5,17 @@ use crate::crc;
 use crate::frame::{seal, Kind};
 use crate::gen::Gen;
 
-/// A request that is sound but for its length, which may be any up to 900.
+/// A request that is sound but for its length, which may be any up to 900;
+/// now and then with more behind it.
 pub fn any_length(gen: &mut Gen) {
     let length = match gen.random.below(3) {
         0 => gen.random.pick(&[253, 254, 255, 256, 840, 841, 842, 843, 844]),
         _ => gen.next_length(),
     };
-    let octets = of_length(gen, length);
+    let mut octets = of_length(gen, length);
+    if gen.random.one_in(4) {
+        octets.extend(gen.random.octets(1 + gen.random.below(3)));
+    }
     gen.octets(&octets);
 }
 
@@ -67,7 +71,7 @@ pub fn broken_frame(gen: &mut Gen) {
         let length = 7 + gen.random.below(894);
         octets = of_length(gen, length);
     }
-    match gen.random.below(10) {
+    match gen.random.below(11) {
         0 => octets.truncate(gen.random.below(octets.len())),
         1 => octets.truncate(octets.len() - 1),
         2 => octets.push(gen.random.pick(&[0, 2, 0xFF])),
@@ -77,6 +81,7 @@ pub fn broken_frame(gen: &mut Gen) {
         6 => false_length(gen, &mut octets),
         7 => swap_length(&mut octets),
         8 => foreign(gen, &mut octets),
+        9 => other_kind(gen, &mut octets),
         _ => flip_crc(gen, &mut octets),
     }
     gen.octets(&octets);
@@ -126,6 +131,12 @@ fn swap_length(octets: &mut [u8]) {
     if octets[0] == 2 {
         octets.swap(1, 2);
     }
+    reseal(octets);
+}
+
+/// A first octet that does not fit the rest.
+fn other_kind(gen: &Gen, octets: &mut [u8]) {
+    octets[0] = gen.random.pick(&[0, 1, 2, 3, 4, 0x82]);
     reseal(octets);
 }
 
@@ -184,7 +195,7 @@ pub fn malformed(gen: &mut Gen) {
     let frame = short_request(gen);
     let mut line = gen.hex(&frame);
     let sighting = format!("s0{}", "E007000001645E3701").into_bytes();
-    match gen.random.below(16) {
+    match gen.random.below(18) {
         0 => line.truncate(line.len() - 1),
         1 => line.push(b'0'),
         2 => line.insert(gen.random.below(frame.len() * 2), b' '),
@@ -198,8 +209,8 @@ pub fn malformed(gen: &mut Gen) {
         10 => line = replaced(sighting, 2 + gen.random.below(18), gen.random.pick(b"gG@`:/ x")),
         11 => line = [&sighting[..2], b" ", &sighting[2..]].concat(),
         12 => line = replaced(line, gen.random.below(frame.len() * 2), gen.random.pick(b"gG@`:/OlxsT")),
-        13 => line = long_line(gen),
-        14 => line = replaced(line, gen.random.below(frame.len() * 2), 0x80 | gen.random.octet()),
+        13..16 => line = long_line(gen),
+        16 => line = replaced(line, gen.random.below(frame.len() * 2), 0x80 | gen.random.octet()),
         _ => line = [b"0x", &line[..]].concat(),
     }
     gen.bad_line(line);
@@ -210,10 +221,14 @@ fn replaced(mut line: Vec<u8>, at: usize, octet: u8) -> Vec<u8> {
     line
 }
 
-/// Longer than the longest frame, and bad only at its end.
-fn long_line(gen: &mut Gen) -> Vec<u8> {
+/// About as long as the longest frame or longer; bad only at its end, by an
+/// odd digit or by a bad one.
+fn long_line(gen: &Gen) -> Vec<u8> {
     let octets = gen.random.below(80) + 820;
     let mut line = vec![b'0'; 2 * octets];
-    line.push(gen.random.pick(b"0FgZ\r "));
+    match gen.random.below(2) {
+        0 => line.push(b'F'),
+        _ => line.extend([b'0', gen.random.pick(b"gZ\r s")]),
+    }
     line
 }

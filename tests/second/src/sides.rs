@@ -218,6 +218,7 @@ pub fn any_reply(random: &Random, kind: Kind, desk: u8, request: &Request) -> Ve
         7 => kind = random.pick(&Kind::BOTH),
         8 => address ^= 1,
         9 => control ^= 1,
+        11 => rest[0] = 0x94,
         10 if rest.len() > 2 => rest[2] = rest[2].wrapping_add(random.pick(&[1, 255])),
         _ => {}
     }

@@ -34,7 +34,7 @@ const STORIES: [(usize, Story); 28] = [
     (24, record_stories::bad_sightings),
     (20, record_stories::some_sightings),
     (20, record_stories::probe_any),
-    (1, rarely),
+    (2, rarely),
 ];
 
 pub fn tell(gen: &mut Gen) {
@@ -52,7 +52,7 @@ pub fn tell(gen: &mut Gen) {
 fn rarely(gen: &mut Gen) {
     match gen.random.below(12) {
         0 => shapes::giant(gen),
-        1..=3 => record_stories::every_desk_full(gen),
+        1..=5 => record_stories::every_desk_full(gen),
         _ => config_stories::every_address(gen),
     }
 }
