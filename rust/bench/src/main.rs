@@ -2,6 +2,7 @@
 //! test, and the second program's plain model in memory. A time is the least of many batches, in nanoseconds a call.
 
 mod checksum;
+mod sides;
 mod stores;
 
 use depot::raw;
@@ -29,8 +30,13 @@ pub fn time<T: Clone>(start: &T, calls: usize, mut call: impl FnMut(&mut T, usiz
     (0..BATCHES).map(batch).fold(f64::INFINITY, f64::min)
 }
 
-fn row(name: &str, mine: f64, octets: f64, memory: f64) {
-    println!("{name:34} {mine:9.0} {octets:9.0} {:6.2} {memory:9.0} {:6.2}", mine / octets, mine / memory);
+pub fn row(name: &str, mine: f64, octets: f64, memory: f64) {
+    print!("{name:34} {mine:9.0} {octets:9.0} {:6.2}", mine / octets);
+    if memory.is_nan() {
+        println!();
+    } else {
+        println!(" {memory:9.0} {:6.2}", mine / memory);
+    }
 }
 
 fn frame_row(name: &str, store: &[u8], control: u8, data: &[u8]) {
@@ -127,5 +133,6 @@ fn main() {
     let fresh = time(&empty, 50, |s, _| _ = black_box(raw::fresh(s)));
     let fresh_octets = time(&empty, 50, |s, _| _ = black_box(place::fresh(s)));
     row("fresh", fresh, fresh_octets, f64::NAN);
+    sides::rows();
     checksum::rows();
 }
