@@ -43,19 +43,20 @@ fn respond(p: Progress, held: &[u8], store: &mut [u8], reply: &mut [u8], out: &m
     let at = place(out, p.waiting);
     let room = out.len() - at;
     match text::answer(p.line, held, store, reply, &mut out[at..]) {
-        Written::Octets(n) => {
-            if n <= room {
-                at + n
-            } else {
-                at
-            }
-        }
+        Written::Octets(n) => { if n <= room { at + n } else { at } }
         Written::Refused(_) => at,
     }
 }
 
 // Takes an octet: a line's, or the LF that ends it.
-fn take(p: Progress, c: u8, held: &mut [u8], store: &mut [u8], reply: &mut [u8], out: &mut [u8]) -> Progress {
+fn take(
+    p: Progress,
+    c: u8,
+    held: &mut [u8],
+    store: &mut [u8],
+    reply: &mut [u8],
+    out: &mut [u8],
+) -> Progress {
     if c == b'\n' {
         return Progress {
             line: text::start(),
@@ -71,7 +72,14 @@ fn take(p: Progress, c: u8, held: &mut [u8], store: &mut [u8], reply: &mut [u8],
 }
 
 // Takes each octet of what was read.
-fn take_all(p: Progress, s: &[u8], held: &mut [u8], store: &mut [u8], reply: &mut [u8], out: &mut [u8]) -> Progress {
+fn take_all(
+    p: Progress,
+    s: &[u8],
+    held: &mut [u8],
+    store: &mut [u8],
+    reply: &mut [u8],
+    out: &mut [u8],
+) -> Progress {
     let mut now = p;
     let mut i: usize = 0;
     while i < s.len() {
@@ -82,7 +90,13 @@ fn take_all(p: Progress, s: &[u8], held: &mut [u8], store: &mut [u8], reply: &mu
 }
 
 // Prints what waits, so that what was read is answered before a read that may wait; then reads once.
-fn turn(p: Progress, held: &mut [u8], store: &mut [u8], reply: &mut [u8], out: &mut [u8]) -> Progress {
+fn turn(
+    p: Progress,
+    held: &mut [u8],
+    store: &mut [u8],
+    reply: &mut [u8],
+    out: &mut [u8],
+) -> Progress {
     let line = p.line;
     flush(out, p.waiting);
     let mut chunk = io::large_buffer();

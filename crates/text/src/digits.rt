@@ -2,7 +2,7 @@
 use crate::print::least;
 ghost use mathlib.Core.Path.{_≡_};
 ghost use Prim.Native.Nat.{_/_, _<_, min};
-ghost use lib.ListN.{length, take, getD};
+ghost use lib.ListN.{length, take};
 ghost use Rattle.octets.specs.Parts.{put};
 ghost use Rattle.octets.specs.Tests.{all};
 ghost use Rattle.text.specs.Digits.{isHex, valueOf, octetsOf};

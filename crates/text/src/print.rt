@@ -4,7 +4,7 @@ use frame::Refusal;
 use rules::Seen;
 use rules::Written;
 ghost use mathlib.Core.Path.{_≡_};
-ghost use Prim.Native.Nat.{_+_, _*_, _≤_, _<_, min};
+ghost use Prim.Native.Nat.{_*_, _≤_, _<_, min};
 ghost use lib.ListN.{length};
 ghost use Rattle.octets.specs.Parts.{put};
 ghost use Rattle.frame.specs.Refusal.{numberOf};

@@ -1,12 +1,14 @@
 -- `text::is_sighting` meets its contract. Assumes nothing.
-use mathlib.Core.Path.{ap, _∙_}
+use mathlib.Core.Path.{_≡_, ap, _∙_}
+use mathlib.Core.Bool.{false}
 use borrow.Author.Tests.{eq-eqb, ne-eqb}
 use Rattle.text.proofs.Values.{rest-of}
 use Rattle.octets.specs.Tests.{all}
 use Rattle.octets.proofs.Tests.{passed, failed}
-use Rattle.text.specs.Digits.{isHex}
+use Rattle.text.specs.Digits.{decimal, isHex}
 use Rattle.text.specs.Listing.{isSighting}
 use borrow.Author.Needs.{needs}
+use lib.ListN.{getD}
 use Rattle.text.proofs.is_sighting.Statement.{statement}
 use Rattle.text.proofs.is_sighting.Tie as tie
 
@@ -22,7 +24,8 @@ returns-3 : tie.Need-returns-3
 unfolding isSighting
 returns-3 c =
     let two = c .before .before .before in
-    rw (eq-eqb _ 20 (two .before .before .if1 .left), eq-eqb _ 0x73 (two .if2 .left), failed (c .before .between .ensures) (c .if3 .taken))
+    let none : decimal (getD (two .before .before .before .before .args .s .now) 1 0) ≡ false = failed (c .before .between .ensures) (c .if3 .taken) in
+    rw (eq-eqb _ 20 (two .before .before .if1 .left), eq-eqb _ 0x73 (two .if2 .left), none)
 
 returns-4 : tie.Need-returns-4
 unfolding isSighting
