@@ -1,1 +1,3 @@
-pub mod Agree
+pub mod Seed1
+pub mod Seed2
+pub mod Seed3

@@ -6,14 +6,12 @@ use mathlib.Core.List.{List}
 use mathlib.Core.Option.{none, some}
 use native.Mathlib.Omega.{arith}
 use lib.ListN.{length, take, length-take, length-append}
-use lib.Seq.{take-all}
 use lib.Dec.{eqb, ltb, lit<}
 use borrow.Author.Tests.{ltb-true, le-ltb, lt-ltb, le-leb, eq-eqb, eqb-false, not-false}
-use Rattle.octets.specs.Parts.{part}
-use Rattle.octets.specs.Numbers.{number, octets, u16At}
+use Rattle.octets.specs.Numbers.{octets, u16At}
 use Rattle.octets.specs.Tests.{first}
 use Rattle.octets.proofs.Tests.{and-left}
-use Rattle.octets.proofs.Numbers.{octets-length, number-octets}
+use Rattle.octets.proofs.Numbers.{octets-length}
 use Rattle.octets.proofs.Each.{all-take}
 use Rattle.timer.specs.Clock.{timerLegal, timerFrom}
 use Rattle.timer.proofs.ReadBack.{timer-length}
@@ -33,6 +31,7 @@ use Rattle.host.specs.declared.Ask.the-variants.{Baud, Reset, SystemRese
 use Rattle.host.specs.declared.Request.{Request}
 use Rattle.host.specs.Request.{bodyOf, fieldsHold, denied}
 use Rattle.host.specs.Possible.{pair, plain, statusMay, recordsMay, allowed, needsLogin, mayAnswer, possible}
+use Rattle.host.proofs.Values.{two-back}
 use Rattle.host.proofs.Asked.{answerTo, ownAnswer, asked-barred, asked-open}
 use Rattle.host.proofs.Denied.{unfit, denied-is}
 use Rattle.host.proofs.Counts.{legal-wide, records-back, counted-length}
@@ -109,8 +108,7 @@ either true = refl
 either false = refl
 
 pub k-back : (k : ℕ) → fieldsHold (ReadRecords k) ≡ true → u16At 0 (octets 2 k) ≡ k
-unfolding u16At part
-k-back k e = ap number (take-all 2 (octets 2 k) (omega (arith, octets-length 2 k))) ∙ number-octets 2 k (ltb-true k 65536 e)
+k-back k e = two-back k (ltb-true k 65536 e)
 
 module _ (kind : Kind) (desk : ℕ) (bytes : List ℕ) (d : Desk) (p : DeskLegal d) where
   own-may : (a : Ask) → fieldsHold a ≡ true
