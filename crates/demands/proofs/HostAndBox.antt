@@ -24,7 +24,7 @@ use Rattle.rules.proofs.Legality.{fresh-facts, fresh-desk-legal}
 use Rattle.rules.proofs.Replies.{obey-carried}
 use Rattle.store.specs.Sound.{sound}
 use Rattle.store.specs.View.{view}
-use Rattle.store.proofs.LegalView.{view-legal}
+use Rattle.store.proofs.LegalView.{desk-of-view}
 use Rattle.store.proofs.EveryBox.{Said, every-box}
 use Rattle.depot.specs.declared.Answer.{Answer}
 use Rattle.depot.specs.Called.{Called, Ended, stepOn}
@@ -40,8 +40,7 @@ use Rattle.demands.specs.Exchange.{Carriable, ruledBy, replyTo, taken, R
 
 module _ (q : Request) (c : Carriable q) (s : List ℕ) (still : sound s ≡ true) (octets : Octets s) where
   legal : DeskLegal (deskAt (view s) (q .desk))
-  unfolding deskAt
-  legal = all-getD DeskLegal (view s) (q .desk) freshDesk (box-facts (view s) (view-legal s still octets) .each) fresh-desk-legal
+  legal = desk-of-view s (q .desk) still octets
 
   -- every answer of a sound store is a possible one
   pub only-possible : possible q (ruledBy q s .status) (length (ruledBy q s .sent)) ≡ true

@@ -18,7 +18,7 @@ use Rattle.rules.specs.Box.{Box, freshBox, deskAt, frame, sighting, tick, Answe
 use Rattle.rules.specs.Events.{concerns, history, answersOf}
 use Rattle.rules.specs.Legal.{fitting}
 use Rattle.rules.proofs.Facts.{DeskLegal, BoxLegal, Fitting, fitting-facts}
-use Rattle.rules.proofs.Legality.{fresh-facts, fresh-desk-legal, step-facts}
+use Rattle.rules.proofs.Legality.{fresh-facts, desk-in-box, step-facts}
 use Rattle.rules.proofs.Replies.{served-reply}
 use Rattle.rules.proofs.Isolation.{isolation}
 use Rattle.store.specs.View.{view}
@@ -39,10 +39,10 @@ unless-reply (some r) box n a t e = let z : _≡_ {A = ℕ} 0 1 = cc in absurd (
 
 module _ (box : Box) (legal : BoxLegal box) where
   frame-fits : (f : List ℕ) (room : ℕ) (t : List ℕ) → All Octet f → step box (frame f room) .answer ≡ reply t → length t ≤ room
-  unfolding step frameRefusals deskAt
+  unfolding step frameRefusals
   frame-fits f room t o e =
       let n = request f .address in
-      let d : DeskLegal (deskAt box n) = all-getD DeskLegal box n freshDesk (legal .each) fresh-desk-legal in
+      let d : DeskLegal (deskAt box n) = desk-in-box box n legal in
       let u = unless-reply (first (frameRefusals f room)) box n (served f (deskAt box n)) t e in
       let s = served-reply f (deskAt box n) o d in
       let same : length (s .0) ≡ length t = ap replied-length (sym (s .1) ∙ u .1) in

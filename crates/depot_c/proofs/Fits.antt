@@ -19,6 +19,7 @@ use Rattle.frame.specs.declared.Refusal.the-variants.{Unsound, SmallBuffer, Wro
 use Rattle.frame.specs.Shape.{shapeOf}
 use Rattle.frame.specs.Refusal.{numberOf}
 use Rattle.frame.specs.Judged.{kindOf, partsOf, dataOf}
+use Rattle.frame.proofs.Bounds.{number-small}
 use Rattle.frame.proofs.Seal.{length-frame}
 use Rattle.rules.specs.declared.Seen.{Seen}
 use Rattle.rules.specs.declared.Seen.the-variants.{Ignored, Lost, Recorded}
@@ -34,7 +35,7 @@ use Rattle.rules.proofs.Replies.{obey-carried}
 use Rattle.store.specs.Sound.{sound}
 use Rattle.store.specs.Layout.{storeSize}
 use Rattle.store.specs.View.{view}
-use Rattle.store.proofs.LegalView.{view-legal}
+use Rattle.store.proofs.LegalView.{desk-of-view}
 use Rattle.depot.specs.declared.Answer.{Answer}
 use Rattle.depot.specs.Called.{Called, Made, Ended, stepOn}
 use Rattle.depot.proofs.Replying.{longest-fits}
@@ -45,16 +46,6 @@ use Rattle.host.specs.Maker.{makerRefusals, Requested}
 use Rattle.host.specs.Reader.{reading, toldOf, readerRefusals, readAs}
 use Rattle.lines.specs.Lines.{lineRefusals, Lined}
 use Rattle.depot_c.specs.Codes.{seenCode, codeOf, writtenCode, readCode}
-
-number-small : (r : Refusal) → numberOf r ≤ 8
-number-small Unsound = omega arith
-number-small SmallBuffer = omega arith
-number-small WrongLength = omega arith
-number-small WrongCheck = omega arith
-number-small NoDesk = omega arith
-number-small OutOfRange = omega arith
-number-small NoRoom = omega arith
-number-small NotTheReply = omega arith
 
 seen-small : (w : Seen) → seenCode w ≤ 18
 seen-small Ignored = omega arith
@@ -97,15 +88,11 @@ served-short f d legal =
     let small = obey-carried (known (p .control)) (p .kind) d (dataOf p f) legal .small in
     omega (arith, length-frame (p .kind) (p .address) (p .control) (r .status ∷ r .sent), longest-fits (p .kind))
 
-legal-at : (s : List ℕ) (n : ℕ) → sound s ≡ true → Octets s → DeskLegal (deskAt (view s) n)
-unfolding deskAt
-legal-at s n e o = all-getD DeskLegal (view s) n freshDesk (box-facts (view s) (view-legal s e o) .each) fresh-desk-legal
-
 frame-short : (f s : List ℕ) (room : ℕ) → Octets s → sound s ≡ true → Short (step (view s) (frame f room) .answer)
 unfolding step placed
 frame-short f s room o e =
     let n = request f .address in
-    unless-short (first (frameRefusals f room)) (view s) (placed (view s) n (served f (deskAt (view s) n))) (served-short f (deskAt (view s) n) (legal-at s n e o))
+    unless-short (first (frameRefusals f room)) (view s) (placed (view s) n (served f (deskAt (view s) n))) (served-short f (deskAt (view s) n) (desk-of-view s n e o))
 
 pub frame-fits : (f s : List ℕ) (room : ℕ) (out : List ℕ) (a : Answer) (s′ out′ : List ℕ) → Octets s → Called (frame f room) s out a s′ out′ → codeOf a < 2 ^ 64
 frame-fits f s room out a s′ out′ o c = ended-fits (stepOn s (frame f room) .answer) (stepOn s (frame f room) .box) s out a s′ out′ (on-short s (frame f room) (frame-short f s room o)) (c .ended)

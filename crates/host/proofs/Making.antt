@@ -18,6 +18,7 @@ use Rattle.frame.specs.declared.Refusal.the-variants.{NoDesk, OutOfRange, NoRoo
 use Rattle.frame.specs.declared.Sealed.the-variants.{Octets, Not}
 use Rattle.frame.specs.Shape.{shapeOf, overhead}
 use Rattle.frame.specs.Sealed.{frameOf, fitsIn, sealedAs, requestIn}
+use Rattle.frame.proofs.Bounds.{lead-small}
 use Rattle.frame.proofs.Room.{by-room, within}
 use Rattle.frame.proofs.Seal.{length-frame}
 use Rattle.rules.specs.declared.Written.the-variants as written
@@ -135,9 +136,5 @@ module _ (q : Asked) (out ys : List ℕ) (at len ctl : ℕ) (low : q .desk ≤ 7
       omega arith
 
 -- how much room there is for the data, by the frame's head
-pub data-room : (k : Kind) (len room lead : ℕ) → fitsIn Request k len room ≡ true → lead ≡ shapeOf k .lead → (lead + 2 + len + 2 ≤ room) × (lead ≤ 3)
-data-room k len room lead e h = (omega (arith, within Request k len room e .1), omega (arith, few-lead k))
-  where
-    few-lead : (k : Kind) → shapeOf k .lead ≤ 3
-    few-lead Standard = omega arith
-    few-lead Advanced = omega arith
+pub data-room : (k : Kind) (len room lead : ℕ) → fitsIn Request k len room ≡ true → lead ≡ shapeOf k .lead → (lead + 2 + len + 2 ≤ room) × (lead < 256)
+data-room k len room lead e h = (omega (arith, within Request k len room e .1), omega (arith, lead-small k))

@@ -1,6 +1,5 @@
 pub mod Widths
 pub mod Marks
-pub mod Hex
 pub mod Whole
 pub mod Outcomes
 pub mod Turns

@@ -4,13 +4,14 @@ use mathlib.Core.Path.{_≡_, refl}
 use mathlib.Core.Bool.{Bool, true, false, cond, _&&_}
 use mathlib.Core.List.{List, [], _∷_}
 use native.Mathlib.Omega.{arith}
-use borrow.Author.Tests.{leb-true}
+use borrow.Author.Tests.{leb-true, eq-eqb, ne-eqb}
 use lib.Dec.{eqb, leb}
 use lib.ListN.{length, getD, length-append}
 use Rattle.octets.specs.Parts.{part}
 use Rattle.octets.proofs.Tests.{both, and-right}
 use Rattle.octets.proofs.Puts.{part-length}
 use Rattle.rules.specs.Config.{useLegal, charLegal, lenLegal, shapeLegal, lineLegal}
+use Rattle.hex.proofs.Digits.{hex-length}
 use Rattle.rules.specs.Line.{hex, shown, header, separator, ending, line}
 use Rattle.lines.specs.Pieces.{shownWidth, widthOf}
 
@@ -27,10 +28,13 @@ pub header-length : (block : List ℕ) → length block ≡ 14 → lineLegal blo
 unfolding header
 header-length block l e = part-length 8 (getD block 13 0 / 16) block (omega (arith, nibbles block e .0))
 
-pub hex-length : (s : List ℕ) → length (hex s) ≡ 2 * length s
-unfolding hex
-hex-length [] = refl
-hex-length (x ∷ s) = omega (arith, hex-length s)
+pub shown-hex : (dbUse : ℕ) (s : List ℕ) → dbUse ≡ 2 → shown dbUse s ≡ hex s
+unfolding shown
+shown-hex dbUse s e = rw (eq-eqb dbUse 2 e)
+
+pub shown-raw : (dbUse : ℕ) (s : List ℕ) → (dbUse ≡ 2 → ⊥) → shown dbUse s ≡ s
+unfolding shown
+shown-raw dbUse s e = rw (ne-eqb dbUse 2 e)
 
 pub shown-length : (dbUse : ℕ) (s : List ℕ) → length (shown dbUse s) ≡ shownWidth dbUse * length s
 unfolding shown shownWidth

@@ -6,7 +6,7 @@ ghost use Prim.Native.Nat.{_+_, _*_, _/_, _%_, _≤_, _<_, max};
 ghost use lib.ListN.{length, getD};
 ghost use Rattle.octets.specs.Parts.{part, put};
 ghost use Rattle.rules.specs.Config.{lineLegal};
-ghost use Rattle.rules.specs.Line.{digit, hex, shown, header, markOf, separator, ending, line};
+ghost use Rattle.rules.specs.Line.{shown, header, markOf, separator, ending, line};
 ghost use Rattle.lines.specs.Pieces.{Holds, shownWidth, widthOf};
 
 const TAB: u8 = 0x07;
@@ -117,34 +117,13 @@ fn put_header(block: &[u8], out: &mut [u8], at: usize) -> usize
     at + n
 }
 
-// A capital hex digit.
-fn digit_of(n: u8) -> u8
-    requires { ⌜ n < 16 ⌝ }
-    ensures { λ r. ⌜ r ≡ digit n ⌝ }
-{
-    if n < 10 { 0x30 + n } else { 0x37 + n }
-}
-
-// Writes octets as hex digits.
-fn put_hex(s: &[u8], out: &mut [u8], at: usize)
-    requires { ⌜ at + 2 * length (now s) ≤ length (now out) ⌝ }
-    ensures { λ _. ⌜ now (out .exit) ≡ put at (hex (now (s .entry))) (now (out .entry)) ⌝ }
-{
-    let mut i: usize = 0;
-    while i < s.len() {
-        out[at + 2 * i] = digit_of(s[i] / 16);
-        out[at + 2 * i + 1] = digit_of(s[i] % 16);
-        i += 1;
-    }
-}
-
 // Writes octets as DB-USE says: capital hex by 2, raw by 0.
 fn put_shown(usage: u8, s: &[u8], out: &mut [u8], at: usize) -> usize
     requires { ⌜ at + length (shown usage (now s)) ≤ length (now out) ⌝ }
     ensures { λ r. ⌜ (r ≡ at + length (shown usage (now (s .entry)))) × (now (out .exit) ≡ put at (shown usage (now (s .entry))) (now (out .entry))) ⌝ }
 {
     if usage == 2 {
-        put_hex(s, out, at);
+        hex::put_hex(s, out, at);
         return at + 2 * s.len();
     }
     octets::copy_to(out, at, s);

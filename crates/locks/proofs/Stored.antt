@@ -73,6 +73,10 @@ pub locks-in-snoc : (n : ℕ) (p : List ℕ) → locksIn (n + 1) p ≡ locksIn n
 unfolding locksIn
 locks-in-snoc n p = rw (add-one, rows-snoc) (map-append lockFrom (rows n lockWidth p) (part (lockWidth * n) lockWidth p ∷ []))
 
+pub no-locks : (n : ℕ) (p : List ℕ) → n ≡ 0 → locksIn n p ≡ []
+unfolding locksIn rows
+no-locks n p e = rw e
+
 -- a turn of a loop that reads locks into a list
 pub loaded-none : (a : List Lock) (p : List ℕ) → take 0 a ≡ locksIn 0 p
 unfolding locksIn rows

@@ -21,7 +21,8 @@ use Rattle.locks.proofs.Sound.{locks-facts, locks-test}
 use Rattle.table.specs.Entries.{width, desks, share, owner, body, recordsOf, ownersBelow, sharesKept}
 use Rattle.table.proofs.Shares.{sharesKept-at}
 use Rattle.rules.specs.Config.{blockAt, lineLegal}
-use Rattle.rules.proofs.Facts.{MemoryLegal, RecordLegal, DeskLegal, box-test}
+use Rattle.rules.proofs.Facts.{MemoryLegal, RecordLegal, DeskLegal, box-facts, box-test}
+use Rattle.rules.proofs.Legality.{desk-in-box}
 use Rattle.rules.specs.Legal.{boxLegal}
 use Rattle.rules.specs.Box.{deskAt}
 use Rattle.store.specs.Layout.{rowWidth, sizeOf, header, startOf, usedOf, area, areas, rowAt, rowOf}
@@ -195,3 +196,7 @@ view-legal s e o =
           box-legal 0 (rowsIn (areas s)) (inUse s)
           (λ d l. rw (zero-add d) (rw (desk-is s f d (omega arith), ← row-is s f d (omega arith)) at (legal-at s f o d (omega arith))));
     }
+
+-- so each of its desks is legal
+pub desk-of-view : (s : List ℕ) (n : ℕ) → sound s ≡ true → Octets s → DeskLegal (deskAt (view s) n)
+desk-of-view s n e o = desk-in-box (view s) n (box-facts (view s) (view-legal s e o))

@@ -14,7 +14,7 @@ use Rattle.frame.specs.declared.Refusal.the-variants.{Unsound, SmallBuffer, Wro
 use Rattle.frame.specs.Refusal.{numberOf}
 use Rattle.rules.specs.declared.Written.the-variants.{Octets, Refused}
 use Rattle.rules.specs.Line.{hex}
-use Rattle.lines.proofs.Widths.{hex-length}
+use Rattle.hex.proofs.Digits.{hex-length}
 use Rattle.text.specs.Listing.{Printed, hexLine}
 
 module _ (t out : List ℕ) where
@@ -25,19 +25,6 @@ module _ (t out : List ℕ) where
   pub done : (n : ℕ) (out′ : List ℕ) → length t ≤ length out → n ≡ length t → out′ ≡ put 0 t out → Printed t out (Octets n) out′
   unfolding first
   done n out′ h q p = rw (le-ltb _ _ h) (record { outcome = (ap Octets q, p) })
-
--- a number of the paper is one digit
-pub number-small : (r : Refusal) (n : ℕ) → n ≡ numberOf r → n ≤ 8
-number-small Unsound n e = omega arith
-number-small SmallBuffer n e = omega arith
-number-small WrongLength n e = omega arith
-number-small WrongCheck n e = omega arith
-number-small NoDesk n e = omega arith
-number-small OutOfRange n e = omega arith
-number-small NoRoom n e = omega arith
-number-small NotTheReply n e = omega arith
-
--- ---- a line of hex digits
 
 pub hex-line-length : (s : List ℕ) → length (hexLine s) ≡ 2 * length s + 1
 unfolding hexLine

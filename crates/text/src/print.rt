@@ -28,27 +28,6 @@ fn say(text: &[u8], out: &mut [u8]) -> Written
     Written::Octets(text.len())
 }
 
-// A capital hex digit.
-fn digit_of(n: u8) -> u8
-    requires { ⌜ n < 16 ⌝ }
-    ensures { λ r. ⌜ r ≡ digit n ⌝ }
-{
-    if n < 10 { 0x30 + n } else { 0x37 + n }
-}
-
-// Writes octets as hex digits.
-fn put_hex(s: &[u8], out: &mut [u8])
-    requires { ⌜ 2 * length (now s) ≤ length (now out) ⌝ }
-    ensures { λ _. ⌜ now (out .exit) ≡ put 0 (hex (now (s .entry))) (now (out .entry)) ⌝ }
-{
-    let mut i: usize = 0;
-    while i < s.len() {
-        out[2 * i] = digit_of(s[i] / 16);
-        out[2 * i + 1] = digit_of(s[i] % 16);
-        i += 1;
-    }
-}
-
 // Writes octets as a line of hex digits.
 fn say_hex(s: &[u8], out: &mut [u8]) -> Written
     ensures { λ r. ⌜ Printed (hexLine (now (s .entry))) (now (out .entry)) r (now (out .exit)) ⌝ }
@@ -60,7 +39,7 @@ fn say_hex(s: &[u8], out: &mut [u8]) -> Written
     if (out.len() - 1) / 2 < s.len() {
         return Written::Refused(Refusal::NoRoom);
     }
-    put_hex(s, out);
+    hex::put_hex(s, out, 0);
     let end = 2 * s.len();
     out[end] = b'\n';
     Written::Octets(end + 1)

@@ -1,5 +1,5 @@
 -- `host::maker::put_frame` meets its contract. Assumes nothing.
-use Prim.Native.Nat.{_+_, _≤_}
+use Prim.Native.Nat.{_+_, _≤_, _<_}
 use mathlib.Core.Path.{sym, ap, _∙_}
 use mathlib.Core.Bool.{not}
 use native.Mathlib.Omega.{arith}
@@ -13,7 +13,7 @@ use Rattle.host.proofs.maker.put_frame.Statement.{statement}
 use Rattle.host.proofs.maker.put_frame.Tie as tie
 
 -- the room that the head leaves
-shaped : (c : tie.After-struct-known) → let z = c .before .before .before .before in let n = c .before .shape .result .lead in (n + 2 + z .args .len + 2 ≤ length (z .args .out .now)) × (n ≤ 3)
+shaped : (c : tie.After-struct-known) → let z = c .before .before .before .before in let n = c .before .shape .result .lead in (n + 2 + z .args .len + 2 ≤ length (z .args .out .now)) × (n < 256)
 shaped c =
     let z = c .before .before .before .before in
     data-room (z .args .q .kind) (z .args .len) (length (z .args .out .now)) _ (z .pre .3) (ap (λ (s : Shape). s .lead) (c .before .shape .ensures))

@@ -1,8 +1,8 @@
 -- `lines::pieces::put_shown` meets its contract. Assumes nothing.
 use native.Mathlib.Omega.{arith}
 use borrow.Author.Needs.{needs}
-use Rattle.lines.proofs.Widths.{hex-length}
-use Rattle.lines.proofs.Hex.{shown-hex, shown-raw}
+use Rattle.hex.proofs.Digits.{hex-length}
+use Rattle.lines.proofs.Widths.{shown-hex, shown-raw}
 use Rattle.lines.proofs.pieces.put_shown.Statement.{statement}
 use Rattle.lines.proofs.pieces.put_shown.Tie as tie
 

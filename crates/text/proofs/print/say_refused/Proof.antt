@@ -2,12 +2,12 @@
 use native.Mathlib.Omega.{arith}
 use borrow.Author.Needs.{needs}
 use Rattle.text.specs.Listing.{refusedLine}
-use Rattle.text.proofs.Outcomes.{number-small}
+use Rattle.frame.proofs.Bounds.{number-small}
 use Rattle.text.proofs.print.say_refused.Statement.{statement}
 use Rattle.text.proofs.print.say_refused.Tie as tie
 
 add-n : tie.Need-add-n
-add-n c = omega (arith, number-small (c .before .before .args .why) _ (c .number .ensures))
+add-n c = omega (arith, number-small (c .before .before .args .why), c .number .ensures)
 
 returns : tie.Need-returns
 unfolding refusedLine

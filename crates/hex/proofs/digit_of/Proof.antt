@@ -1,9 +1,9 @@
--- `text::print::digit_of` meets its contract. Assumes nothing.
+-- `hex::digit_of` meets its contract. Assumes nothing.
 use native.Mathlib.Omega.{arith}
 use borrow.Author.Needs.{needs}
-use Rattle.lines.proofs.Hex.{digit-low, digit-high}
-use Rattle.text.proofs.print.digit_of.Statement.{statement}
-use Rattle.text.proofs.print.digit_of.Tie as tie
+use Rattle.hex.proofs.Digits.{digit-low, digit-high}
+use Rattle.hex.proofs.digit_of.Statement.{statement}
+use Rattle.hex.proofs.digit_of.Tie as tie
 
 returns : tie.Need-returns
 returns c = omega (arith, digit-low _ (c .if1 .taken))

@@ -1,22 +1,21 @@
--- `text::print::put_hex` meets its contract. After i turns the digits of the first i octets are written. Assumes nothing.
+-- `hex::put_hex` meets its contract. After i turns the digits of the first i octets are written. Assumes nothing.
 use Prim.Native.Nat.{_≤_, _-_}
 use mathlib.Core.Path.{_≡_, refl, ap, _∙_}
 use native.Mathlib.Omega.{arith}
-use native.Mathlib.Nat.{zero-add}
 use lib.ListN.{length, take, length-set}
 use lib.Seq.{take-all}
 use Rattle.octets.specs.Parts.{put}
-use Rattle.octets.proofs.Puts.{put-length}
 use Rattle.rules.specs.Line.{hex}
-use Rattle.lines.proofs.Hex.{hex-more}
-use Rattle.text.proofs.print.put_hex.Statement.{statement}
-use Rattle.text.proofs.print.put_hex.Tie as tie
+use Rattle.octets.proofs.Puts.{put-length}
+use Rattle.hex.proofs.Digits.{hex-more}
+use Rattle.hex.proofs.put_hex.Statement.{statement}
+use Rattle.hex.proofs.put_hex.Tie as tie
 
 abbrev Inv-loop : tie.InvT-loop
-Inv-loop s out₀ i₀ out i = (i ≤ length s) × (length out ≡ length out₀) × (out ≡ put 0 (hex (take i s)) out₀)
+Inv-loop s out₀ at i₀ out i = (i ≤ length s) × (length out ≡ length out₀) × (out ≡ put at (hex (take i s)) out₀)
 
 abbrev μ-loop : tie.MeasureT-loop
-μ-loop s out₀ i₀ out i = length s - i
+μ-loop s out₀ at i₀ out i = length s - i
 
 loop-holds : tie.Need-loop-holds Inv-loop μ-loop
 unfolding put hex
@@ -30,7 +29,7 @@ loop-again c =
     let one = c .before .before in
     let l = one .before .before .before in
     let a = l .before .before .before .args in
-    let e = simp zero-add at (hex-more 0 (l .loop .i) (a .s .now) (a .out .now) (l .loop .out) _ _ (omega arith) (l .loop .inv .2) (one .digit-of .ensures) (c .digit-of2 .ensures)) in
+    let e = hex-more (a .at) (l .loop .i) (a .s .now) (a .out .now) (l .loop .out) _ _ (omega arith) (l .loop .inv .2) (one .digit-of .ensures) (c .digit-of2 .ensures) in
     (omega arith, ap length e ∙ put-length _ _ _, e)
 
 returns : tie.Need-returns Inv-loop μ-loop
@@ -50,7 +49,9 @@ put-hex-spec =
     (λ c. omega arith)
     (λ c. omega arith)
     (λ c. omega arith)
+    (λ c. omega arith)
     (λ c κs. omega arith)
+    (λ c. omega arith)
     (λ c. omega arith)
     (λ c. omega arith)
     (λ c. simp length-set (omega arith))

@@ -4,14 +4,13 @@ use mathlib.Core.Path.{_≡_, refl, sym, _∙_}
 use mathlib.Core.List.{List, [], _∷_, _++_}
 use native.Mathlib.Numerals.{add-one}
 use native.Mathlib.Omega.{arith}
-use borrow.Author.Tests.{eq-eqb, ne-eqb, lt-ltb, le-ltb}
+use borrow.Author.Tests.{lt-ltb, le-ltb}
 use lib.ListN.{length, getD, set, take}
 use lib.Seq.{take-suc, length-take-le}
 use Rattle.octets.specs.Parts.{put}
 use Rattle.octets.proofs.Puts.{put-append}
 use Rattle.octets.proofs.Joins.{put-two}
-use Rattle.rules.specs.Line.{digit, hex, shown}
-use Rattle.lines.proofs.Widths.{hex-length}
+use Rattle.rules.specs.Line.{digit, hex}
 
 pub digit-low : (n : ℕ) → n < 10 → digit n ≡ 0x30 + n
 unfolding digit
@@ -21,13 +20,10 @@ pub digit-high : (n : ℕ) → 10 ≤ n → digit n ≡ 0x37 + n
 unfolding digit
 digit-high n h = rw (le-ltb n 10 h)
 
-pub shown-hex : (dbUse : ℕ) (s : List ℕ) → dbUse ≡ 2 → shown dbUse s ≡ hex s
-unfolding shown
-shown-hex dbUse s e = rw (eq-eqb dbUse 2 e)
-
-pub shown-raw : (dbUse : ℕ) (s : List ℕ) → (dbUse ≡ 2 → ⊥) → shown dbUse s ≡ s
-unfolding shown
-shown-raw dbUse s e = rw (ne-eqb dbUse 2 e)
+pub hex-length : (s : List ℕ) → length (hex s) ≡ 2 * length s
+unfolding hex
+hex-length [] = refl
+hex-length (x ∷ s) = omega (arith, hex-length s)
 
 hex-append : (s t : List ℕ) → hex (s ++ t) ≡ hex s ++ hex t
 unfolding hex
