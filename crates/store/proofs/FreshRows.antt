@@ -1,18 +1,20 @@
 -- The fresh row, header and rows, as they are written one part behind the other. Assumes nothing.
 use Prim.Native.Nat.{ℕ, zero, suc, _+_, _*_}
-use mathlib.Core.Path.{_≡_, sym, ap, _∙_}
-use mathlib.Core.List.{List, [], _∷_, _++_}
-use lib.ListN.{length, replicate, length-append, length-replicate, replicate-append-replicate}
+use mathlib.Core.Path.{_≡_, refl, sym, ap, _∙_}
+use mathlib.Core.List.{List, [], _∷_, _++_, append-nil}
+use lib.ListN.{length, take, drop, replicate, length-append, length-drop, length-replicate, replicate-append-replicate, drop-of-length-le}
+use lib.Seq.{length-take-le, drop-at}
 use native.Mathlib.Omega.{arith}
 use Rattle.octets.specs.Parts.{put, concat}
 use Rattle.octets.specs.Numbers.{octets}
-use Rattle.octets.proofs.Puts.{put-length, put-append}
+use Rattle.octets.proofs.Puts.{put-length, put-append, put-front}
 use Rattle.octets.proofs.Joins.{put-next}
 use Rattle.octets.proofs.Numbers.{octets-length}
 use Rattle.octets.proofs.Rows.{Wide, concat-append, concat-one, length-concat}
 use Rattle.table.specs.Entries.{desks}
 use Rattle.rules.specs.Config.{defaults, validOf}
 use Rattle.rules.proofs.Memories.{defaults-legal}
+use Rattle.rules.proofs.Computed.{computed}
 use Rattle.store.specs.Layout.{storeSize, rowWidth}
 use Rattle.store.specs.Fresh.{freshRow, freshHeader, freshStore}
 
@@ -37,6 +39,10 @@ unfolding freshHeader
 header-made a b u s p q r =
     put-three (octets 2 a) (octets 2 b) (octets 2 u) s 2 4 (octets-length 2 a) (omega (arith, octets-length 2 a, octets-length 2 b)) ∙ rw (p, q, r)
 
+pub fresh-length : length freshHeader ≡ 6
+unfolding computed freshHeader
+fresh-length = refl
+
 -- ---- rows alike
 
 pub wide-alike : (w d : ℕ) (r : List ℕ) → length r ≡ w → Wide w (replicate d r)
@@ -55,7 +61,32 @@ rows-next w d start at r r′ s s′ e h p q =
     let at-is : at ≡ start + length (concat rs) = omega arith in
     rw (p, q, at-is, more) (sym (put-append start (concat rs) r s))
 
--- the rows and the header, in as many zeros as a store has octets
-pub store-made : (n : ℕ) → n ≡ storeSize → put 6 (concat (replicate desks freshRow)) (put 0 freshHeader (replicate n 0)) ≡ freshStore
+-- ---- the whole store
+
+-- what is written in front of the last m octets hides what lay there
+front-hides : (xs a z : List ℕ) (n : ℕ) → length xs ≡ n → length a ≡ n → put 0 xs (a ++ z) ≡ xs ++ z
+front-hides xs a z n e h =
+    put-front xs (a ++ z) (rw length-append (omega arith))
+    ∙ ap (λ (r : List ℕ). xs ++ r) (drop-at a z (length xs) (omega arith))
+
+-- zeros in the last m octets, and before them what is written: that is all written in zeros
+zeros-behind : (xs s y : List ℕ) (n m : ℕ) → length xs ≡ n → length s ≡ n + m → y ≡ replicate (length (take m (drop n s))) 0
+    → put 0 xs (take n s ++ (y ++ drop m (drop n s))) ≡ put 0 xs (replicate (n + m) 0)
+zeros-behind xs s y n m e h z =
+    let none : drop m (drop n s) ≡ [] = drop-of-length-le (drop n s) {i = m} (simp length-drop (omega arith)) in
+    let last : y ≡ replicate m 0 = z ∙ ap (λ (k : ℕ). replicate k 0) (length-take-le m (drop n s) (simp length-drop (omega arith))) in
+    ap (λ (r : List ℕ). put 0 xs (take n s ++ r)) (rw (none, append-nil) last)
+    ∙ front-hides xs (take n s) (replicate m 0) n e (length-take-le n s (omega arith))
+    ∙ sym (front-hides xs (replicate n 0) (replicate m 0) n e (length-replicate {A = ℕ} n 0))
+    ∙ ap (put 0 xs) (replicate-append-replicate {A = ℕ} n m 0)
+
+-- zeros behind the rows, the header and the rows in front of them
+pub store-made : (s y : List ℕ) → length s ≡ storeSize → y ≡ replicate (length (take 7586 (drop 8798 s))) 0
+    → put 6 (concat (replicate desks freshRow)) (put 0 freshHeader (take 8798 s ++ (y ++ drop 7586 (drop 8798 s)))) ≡ freshStore
 unfolding freshStore
-store-made n e = ap (λ (k : ℕ). put 6 (concat (replicate desks freshRow)) (put 0 freshHeader (replicate k 0))) e
+store-made s y e z =
+    let rs = concat (replicate desks freshRow) in
+    let rows : length rs ≡ rowWidth * desks = length-concat rowWidth (replicate desks freshRow) (wide-alike rowWidth desks freshRow row-length) ∙ ap (λ (k : ℕ). rowWidth * k) (length-replicate desks freshRow) in
+    put-next freshHeader rs _ 6 fresh-length
+    ∙ zeros-behind (freshHeader ++ rs) s y 8798 7586 (length-append freshHeader rs ∙ omega (arith, fresh-length)) e z
+    ∙ sym (put-next freshHeader rs (replicate storeSize 0) 6 fresh-length)

@@ -23,15 +23,12 @@ use Rattle.store.specs.Sound.{fine, tableSound, deskSound, sound}
 use Rattle.store.specs.Fresh.{freshHeader}
 use Rattle.store.proofs.Places.{Fine, fine-facts, start-counted, used-counted, counted-fine}
 use Rattle.store.proofs.Changes.{sound-test}
+use Rattle.store.proofs.FreshRows.{fresh-length}
 
 -- ---- the header, with n entries in use
 
 unfoldable pub laidHeader : ℕ → List ℕ
 laidHeader n = put 4 (octets 2 n) freshHeader
-
-fresh-length : length freshHeader ≡ 6
-unfolding computed freshHeader
-fresh-length = refl
 
 fresh-fine : fine freshHeader ≡ true
 unfolding computed freshHeader fine startOf usedOf

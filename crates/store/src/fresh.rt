@@ -8,6 +8,7 @@ ghost use Rattle.rules.specs.Config.{blockAt, written, defaults};
 ghost use Rattle.store.specs.Layout.{storeSize, rowWidth};
 ghost use Rattle.store.specs.Fresh.{freshRow, freshHeader, freshStore};
 use super::ROW;
+use super::SIZE;
 
 // The default configuration, block by block.
 const DEFAULTS: [[u8; 14]; 16] = [
@@ -99,12 +100,12 @@ fn put_rows(s: &mut [u8])
     }
 }
 
-// Makes a store be the fresh one.
+// Makes a store be the fresh one: zeros behind the rows, and all that stands before them is written.
 pub fn make(s: &mut [u8])
     requires { ⌜ length (now s) ≡ storeSize ⌝ }
     ensures { λ _. ⌜ now (s .exit) ≡ freshStore ⌝ }
 {
-    octets::fill(s, 0);
+    octets::fill(&mut s[8798..SIZE], 0);
     put_header(s);
     put_rows(s);
 }

@@ -10,7 +10,17 @@ returns c =
     let rows = c .before .before in
     let head = rows .before .before .before .before in
     let zeros = head .before .before .before .before in
-    rows .put-rows .ensures ∙ rw (head .put-header .ensures, zeros .fill .ensures) (store-made _ (zeros .before .before .before .pre))
+    rows .put-rows .ensures ∙ rw (head .put-header .ensures) (store-made (zeros .before .before .before .args .s .now) _ (zeros .before .before .before .pre) (zeros .fill .ensures))
 
 pub make-spec : {M : Type 1} → statement M
-make-spec = tie.close (tie.spec (λ c κs. search needs) (λ c κs. search needs) (λ c κs. search needs) (λ c. search needs) returns)
+make-spec =
+    tie.close
+    (tie.spec
+    (λ c. search needs)
+    (λ c. search needs)
+    (λ c. search needs)
+    (λ c κs. search needs)
+    (λ c κs. search needs)
+    (λ c κs. search needs)
+    (λ c. search needs)
+    returns)
