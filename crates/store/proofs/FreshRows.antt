@@ -22,12 +22,37 @@ use Rattle.store.specs.Fresh.{freshRow, freshHeader, freshStore}
 put-three : (xs ys zs s : List ℕ) (i j : ℕ) → length xs ≡ i → length xs + length ys ≡ j → put j zs (put i ys (put 0 xs s)) ≡ put 0 (xs ++ ys ++ zs) s
 put-three xs ys zs s i j e h = ap (put j zs) (put-next xs ys s i e) ∙ put-next (xs ++ ys) zs s j (length-append xs ys ∙ h)
 
--- the defaults twice, and VALID-TIME v
-pub row-made : (v : ℕ) (s : List ℕ) → v ≡ validOf defaults → s ≡ replicate rowWidth 0 → put 448 (octets 2 v) (put 224 defaults (put 0 defaults s)) ≡ freshRow
+-- ---- zeros behind what is written
+
+-- what is written in front of the last m octets hides what lay there
+front-hides : (xs a z : List ℕ) (n : ℕ) → length xs ≡ n → length a ≡ n → put 0 xs (a ++ z) ≡ xs ++ z
+front-hides xs a z n e h =
+    put-front xs (a ++ z) (rw length-append (omega arith))
+    ∙ ap (λ (r : List ℕ). xs ++ r) (drop-at a z (length xs) (omega arith))
+
+-- zeros in the last m octets, and before them what is written: that is all written in zeros
+zeros-behind : (xs s y : List ℕ) (n m : ℕ) → length xs ≡ n → length s ≡ n + m → y ≡ replicate (length (take m (drop n s))) 0
+    → put 0 xs (take n s ++ (y ++ drop m (drop n s))) ≡ put 0 xs (replicate (n + m) 0)
+zeros-behind xs s y n m e h z =
+    let none : drop m (drop n s) ≡ [] = drop-of-length-le (drop n s) {i = m} (simp length-drop (omega arith)) in
+    let last : y ≡ replicate m 0 = z ∙ ap (λ (k : ℕ). replicate k 0) (length-take-le m (drop n s) (simp length-drop (omega arith))) in
+    ap (λ (r : List ℕ). put 0 xs (take n s ++ r)) (rw (none, append-nil) last)
+    ∙ front-hides xs (take n s) (replicate m 0) n e (length-take-le n s (omega arith))
+    ∙ sym (front-hides xs (replicate n 0) (replicate m 0) n e (length-replicate {A = ℕ} n 0))
+    ∙ ap (put 0 xs) (replicate-append-replicate {A = ℕ} n m 0)
+
+-- ---- a row
+
+-- zeros, and before them the defaults twice and VALID-TIME v
+pub row-made : (v : ℕ) (s y : List ℕ) → v ≡ validOf defaults → length s ≡ rowWidth → y ≡ replicate (length (take 649 (drop 450 s))) 0
+    → put 448 (octets 2 v) (put 224 defaults (put 0 defaults (take 450 s ++ (y ++ drop 649 (drop 450 s))))) ≡ freshRow
 unfolding freshRow
-row-made v s e h =
+row-made v s y e h z =
     let d : length defaults ≡ 224 = defaults-legal .size in
-    rw (e, h) (put-three defaults defaults (octets 2 (validOf defaults)) (replicate rowWidth 0) 224 448 d (omega arith))
+    let front = defaults ++ defaults ++ octets 2 (validOf defaults) in
+    let long : length front ≡ 450 = rw (length-append, length-append) (omega (arith, octets-length 2 (validOf defaults))) in
+    rw e (put-three defaults defaults (octets 2 (validOf defaults)) _ 224 448 d (omega arith)
+    ∙ zeros-behind front s y 450 649 long h z)
 
 pub row-length : length freshRow ≡ rowWidth
 unfolding freshRow
@@ -62,23 +87,6 @@ rows-next w d start at r r′ s s′ e h p q =
     rw (p, q, at-is, more) (sym (put-append start (concat rs) r s))
 
 -- ---- the whole store
-
--- what is written in front of the last m octets hides what lay there
-front-hides : (xs a z : List ℕ) (n : ℕ) → length xs ≡ n → length a ≡ n → put 0 xs (a ++ z) ≡ xs ++ z
-front-hides xs a z n e h =
-    put-front xs (a ++ z) (rw length-append (omega arith))
-    ∙ ap (λ (r : List ℕ). xs ++ r) (drop-at a z (length xs) (omega arith))
-
--- zeros in the last m octets, and before them what is written: that is all written in zeros
-zeros-behind : (xs s y : List ℕ) (n m : ℕ) → length xs ≡ n → length s ≡ n + m → y ≡ replicate (length (take m (drop n s))) 0
-    → put 0 xs (take n s ++ (y ++ drop m (drop n s))) ≡ put 0 xs (replicate (n + m) 0)
-zeros-behind xs s y n m e h z =
-    let none : drop m (drop n s) ≡ [] = drop-of-length-le (drop n s) {i = m} (simp length-drop (omega arith)) in
-    let last : y ≡ replicate m 0 = z ∙ ap (λ (k : ℕ). replicate k 0) (length-take-le m (drop n s) (simp length-drop (omega arith))) in
-    ap (λ (r : List ℕ). put 0 xs (take n s ++ r)) (rw (none, append-nil) last)
-    ∙ front-hides xs (take n s) (replicate m 0) n e (length-take-le n s (omega arith))
-    ∙ sym (front-hides xs (replicate n 0) (replicate m 0) n e (length-replicate {A = ℕ} n 0))
-    ∙ ap (put 0 xs) (replicate-append-replicate {A = ℕ} n m 0)
 
 -- zeros behind the rows, the header and the rows in front of them
 pub store-made : (s y : List ℕ) → length s ≡ storeSize → y ≡ replicate (length (take 7586 (drop 8798 s))) 0

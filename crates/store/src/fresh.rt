@@ -7,6 +7,7 @@ ghost use Rattle.table.specs.Entries.{desks};
 ghost use Rattle.rules.specs.Config.{blockAt, written, defaults};
 ghost use Rattle.store.specs.Layout.{storeSize, rowWidth};
 ghost use Rattle.store.specs.Fresh.{freshRow, freshHeader, freshStore};
+use super::LOGIN;
 use super::ROW;
 use super::SIZE;
 
@@ -71,7 +72,7 @@ fn fresh_row(row: &mut [u8])
     requires { ⌜ length (now row) ≡ rowWidth ⌝ }
     ensures { λ _. ⌜ now (row .exit) ≡ freshRow ⌝ }
 {
-    octets::fill(row, 0);
+    octets::fill(&mut row[LOGIN..ROW], 0);
     put_memory(row, 0);
     put_memory(row, 224);
     octets::put16(row, 448, 55);

@@ -1,7 +1,5 @@
 -- `store::fresh::fresh_row` meets its contract. Assumes nothing.
-use Prim.Native.Nat.{ℕ}
-use mathlib.Core.Path.{sym, ap, _∙_}
-use lib.ListN.{replicate}
+use mathlib.Core.Path.{sym, _∙_}
 use Rattle.store.proofs.Blocks.{valid-default}
 use Rattle.store.proofs.FreshRows.{row-made}
 use borrow.Author.Needs.{needs}
@@ -16,12 +14,15 @@ returns c =
     let zeros = one .before .before .before .before in
     number .put16 .ensures
     ∙ rw (second .put-memory2 .ensures, one .put-memory .ensures)
-    (row-made _ _ (sym valid-default) (zeros .fill .ensures ∙ ap (λ (n : ℕ). replicate n 0) (zeros .before .before .before .pre)))
+    (row-made _ (zeros .before .before .before .args .row .now) _ (sym valid-default) (zeros .before .before .before .pre) (zeros .fill .ensures))
 
 pub fresh-row-spec : {M : Type 1} → statement M
 fresh-row-spec =
     tie.close
     (tie.spec
+    (λ c. search needs)
+    (λ c. search needs)
+    (λ c. search needs)
     (λ c κs. search needs)
     (λ c κs. search needs)
     (λ c κs. search needs)
