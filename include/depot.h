@@ -100,7 +100,8 @@ uint64_t depot_fresh(uint8_t *store, size_t store_len);
 uint64_t depot_frame(uint8_t *store, size_t store_len, const uint8_t *frame, size_t frame_len, uint8_t *out, size_t out_len);
 
 /*
- * A tag is sighted at a desk by the antennas of a mask from 1 to 255.
+ * A tag is sighted at a desk by the antennas of a mask from 1 to 255. Its UID is eight octets as one number, the first of them most
+ * significant.
  * Answers: DEPOT_IGNORED, DEPOT_LOST, DEPOT_RECORDED; refusals 1, 5, 6 (a mask of 0 or above 255), the least that fits.
  * Afterwards: the store is sound and holds what the sighting did; refused, it is as before.
  */

@@ -1,15 +1,16 @@
 -- The user's three demands, each as one theorem over the promises of the calls. Assumes nothing.
 use Prim.Native.Nat.{ℕ, _≤_, _<_}
-use mathlib.Core.Path.{_≡_}
+use mathlib.Core.Path.{_≡_, subst}
 use mathlib.Core.Bool.{Bool, true, false, cond}
 use mathlib.Core.List.{List}
 use mathlib.Core.Logic.{_⊎_, inl, inr}
-use lib.ListN.{length}
+use lib.ListN.{length, take}
 use lib.Dec.{eqb}
-use Rattle.octets.specs.Numbers.{Octets}
+use Rattle.octets.specs.Numbers.{Octets as AllOctets}
 use Rattle.octets.specs.Tests.{all}
 use Rattle.frame.specs.declared.Refusal.{Refusal}
 use Rattle.frame.specs.declared.Refusal.the-variants.{Unsound}
+use Rattle.rules.specs.declared.Written.the-variants.{Octets}
 use Rattle.rules.specs.Box.{Event, frame, freshBox, deskAt, run, after}
 use Rattle.rules.specs.Events.{history}
 use Rattle.rules.specs.Cases.{cases}
@@ -21,15 +22,15 @@ use Rattle.store.specs.Sound.{sound}
 use Rattle.depot.specs.declared.Answer.{Answer}
 use Rattle.depot.specs.declared.Answer.the-variants.{Refused, Done}
 use Rattle.depot.specs.Called.{Called, Made}
-use Rattle.host.specs.declared.Request.{Request}
-use Rattle.host.specs.Request.{requestFrame}
+use Rattle.requests.specs.declared.Request.{Request}
+use Rattle.maker.specs.Maker.{Requested}
 use Rattle.demands.specs.History.{Deed, eventsOf, History}
 use Rattle.demands.specs.Answers.{ofItsList, GaveAll, heardBy}
 use Rattle.demands.specs.Exchange.{Carriable, ReadBack}
 use Rattle.demands.proofs.Steps.{lived}
 use Rattle.demands.proofs.Listed.{refused-writes-nothing, always-listed}
 use Rattle.demands.proofs.Isolated.{isolated}
-use Rattle.demands.proofs.HostAndBox.{host-hears}
+use Rattle.demands.proofs.HostAndBox.{host-hears, made-frame, made-carriable}
 
 -- 1. Nothing harms the box: any octets, any numbers, any store. The answer is of the call's list, and a refused call writes nothing
 pub nothing-harms : (e : Event) (s out : List ℕ) (a : Answer) (s′ out′ : List ℕ) → Called e s out a s′ out′
@@ -49,10 +50,14 @@ pub papers-answers : (ds : List Deed) (s : List ℕ) → History ds s
     → (sound s ≡ true) × (view s ≡ after freshBox (eventsOf ds)) × GaveAll (run freshBox (eventsOf ds)) ds
 papers-answers ds s h = let l = lived ds s h in (l .still, l .says, l .gave)
 
--- and what the host makes is read by the box as that request, what the box replies is read back as that reply
-pub read-each-other : (q : Request) → Carriable q → (s out : List ℕ) → sound s ≡ true → Octets s → 842 ≤ length out
-    → (a : Answer) (s′ out′ : List ℕ) → Called (frame (requestFrame q) (length out)) s out a s′ out′ → ReadBack q s a out′
-read-each-other q c s out still o room a s′ out′ called = host-hears q c s still o out room a s′ out′ called
+-- and what the host makes is read by the box as that request, what the box replies is read back as that reply: by the promises of maker,
+-- box and reader
+pub read-each-other : (q : Request) (buf : List ℕ) (n : ℕ) (buf′ : List ℕ) → length (q .bytes) ≡ 14 → Requested q buf (Octets n) buf′
+    → (s out : List ℕ) → sound s ≡ true → AllOctets s → 842 ≤ length out
+    → (a : Answer) (s′ out′ : List ℕ) → Called (frame (take n buf′) (length out)) s out a s′ out′ → ReadBack q s a out′
+read-each-other q buf n buf′ size made s out still o room a s′ out′ called =
+    host-hears q (made-carriable q buf n buf′ made size) s still o out room a s′ out′
+    (subst (λ (f : List ℕ). Called (frame f (length out)) s out a s′ out′) (made-frame q buf n buf′ made) called)
 
 -- 3. No desk shows in another: two histories, over whatever buffers, whose events for a desk are equal; whatever the other seven do
 pub no-desk-shows : (n : ℕ) → n < 8 → (ds ds′ : List Deed) (s s′ : List ℕ) → History ds s → History ds′ s′

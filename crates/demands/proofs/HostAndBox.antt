@@ -1,27 +1,31 @@
 -- Host and box read each other (demand 2's last sentence), and the reader refuses exactly what no sound store makes the box answer.
 -- Assumes nothing.
 use Prim.Native.Nat.{ℕ, _≤_}
-use mathlib.Core.Path.{_≡_, refl, ap, _∙_}
-use mathlib.Core.Bool.{true}
+use mathlib.Core.Path.{_≡_, refl, sym, ap, _∙_}
+use mathlib.Core.Bool.{true, not}
 use mathlib.Core.List.{List, _∷_}
+use mathlib.Core.Option.{none}
 use native.Mathlib.Omega.{arith}
 use lib.ListN.{length, take, set, length-set}
 use lib.Seq.{take-at, getD-set-same}
-use borrow.Author.Tests.{ltb-false, not-true}
+use borrow.Author.Tests.{ltb-false, not-true, not-false}
+use Rattle.octets.specs.Tests.{first}
 use Rattle.octets.specs.Numbers.{Octets}
-use Rattle.octets.proofs.Tests.{and-left}
+use Rattle.octets.proofs.Tests.{and-left, none-head, none-tail}
 use Rattle.octets.specs.Parts.{put}
-use Rattle.octets.proofs.Each.{all-set, all-getD}
+use Rattle.octets.proofs.Each.{all-set}
 use Rattle.octets.proofs.Puts.{put-front}
 use Rattle.frame.proofs.Seal.{length-frame}
+use Rattle.rules.specs.declared.Written.the-variants as written
 use Rattle.rules.specs.Control.{known}
 use Rattle.rules.specs.Desk.{Desk, freshDesk}
 use Rattle.rules.specs.Command.{answered}
 use Rattle.rules.specs.Box.{Box, freshBox, deskAt, noDesk, frame, reply, placed}
 use Rattle.rules.specs.Legal.{boxLegal}
-use Rattle.rules.proofs.Facts.{DeskLegal, desk-facts, box-facts, box-test}
-use Rattle.rules.proofs.Legality.{fresh-facts, fresh-desk-legal}
+use Rattle.rules.proofs.Facts.{DeskLegal, desk-facts, box-test}
+use Rattle.rules.proofs.Legality.{fresh-facts}
 use Rattle.rules.proofs.Replies.{obey-carried}
+use Rattle.rules.proofs.Output.{wrote-octets}
 use Rattle.store.specs.Sound.{sound}
 use Rattle.store.specs.View.{view}
 use Rattle.store.proofs.LegalView.{desk-of-view}
@@ -29,13 +33,14 @@ use Rattle.store.proofs.EveryBox.{Said, every-box}
 use Rattle.depot.specs.declared.Answer.{Answer}
 use Rattle.depot.specs.Called.{Called, Ended, stepOn}
 use Rattle.depot.proofs.Replying.{longest-fits}
-use Rattle.host.specs.declared.Request.{Request}
-use Rattle.host.specs.Request.{controlOf, dataFor, requestFrame}
-use Rattle.host.specs.Possible.{possible}
-use Rattle.host.proofs.BoxReads.{box-steps}
-use Rattle.host.proofs.Answers.{answer-possible}
-use Rattle.host.proofs.Given.{Given, possible-given}
-use Rattle.host.proofs.ReadBack.{reply-read}
+use Rattle.requests.specs.declared.Request.{Request}
+use Rattle.requests.specs.Request.{controlOf, dataFor, fieldsHold, denied, inRange, requestFrame}
+use Rattle.maker.specs.Maker.{makerRefusals, Requested}
+use Rattle.reader.specs.Possible.{possible}
+use Rattle.requests.proofs.BoxReads.{box-steps}
+use Rattle.reader.proofs.Answers.{answer-possible}
+use Rattle.reader.proofs.Given.{Given, possible-given}
+use Rattle.reader.proofs.ReadBack.{reply-read}
 use Rattle.demands.specs.Exchange.{Carriable, ruledBy, replyTo, taken, ReadBack, Gives}
 
 module _ (q : Request) (c : Carriable q) (s : List ℕ) (still : sound s ≡ true) (octets : Octets s) where
@@ -70,6 +75,27 @@ module _ (q : Request) (c : Carriable q) (s : List ℕ) (still : sound s ≡ tru
         let there = front out′ (e .1) in
         let back = reply-read q (deskAt (view s) (q .desk)) legal (c .bytes) (c .desk) (c .fields) in
         record { answer-is = e .0; there = there; read-is = rw there (back .0); data-is = rw there (back .1) }
+
+-- ---- what the maker made is the request's frame, and one that a box answers
+
+module _ (q : Request) (buf : List ℕ) (n : ℕ) (buf′ : List ℕ) (made : Requested q buf (written.Octets n) buf′) where
+  was-written : (first (makerRefusals q (length buf)) ≡ none) × (n ≡ length (requestFrame q)) × (buf′ ≡ put 0 (requestFrame q) buf)
+  was-written = wrote-octets (first (makerRefusals q (length buf))) (requestFrame q) buf n buf′ made
+
+  pub made-frame : take n buf′ ≡ requestFrame q
+  unfolding makerRefusals
+  made-frame =
+      let room = ltb-false (length buf) (length (requestFrame q)) (none-head _ _ _ (none-tail _ _ _ (none-tail _ _ _ (was-written .0)))) in
+      ap (take n) (was-written .2 ∙ put-front (requestFrame q) buf room) ∙ take-at (requestFrame q) _ n (sym (was-written .1))
+
+  pub made-carriable : length (q .bytes) ≡ 14 → Carriable q
+  unfolding makerRefusals noDesk inRange
+  made-carriable size =
+      record {
+        bytes = size;
+        desk = ltb-false 7 (q .desk) (none-head _ _ _ (was-written .0));
+        fields = and-left (fieldsHold (q .ask)) (not (denied q)) (not-false (inRange q) (none-head _ _ _ (none-tail _ _ _ (was-written .0))));
+      }
 
 possible-desk : (q : Request) (status len : ℕ) → possible q status len ≡ true → q .desk ≤ 7
 unfolding possible noDesk

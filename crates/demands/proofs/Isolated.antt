@@ -9,11 +9,10 @@ use lib.ListN.{length, take}
 use lib.Seq.{take-at}
 use borrow.Author.Tests.{ltb-false}
 use Rattle.octets.specs.Tests.{first, all}
-use Rattle.octets.proofs.Each.{All, Octet, all-getD}
+use Rattle.octets.proofs.Each.{All, Octet}
 use Rattle.octets.proofs.Tests.{none-head, and-left, and-right}
 use Rattle.octets.proofs.Puts.{put-front}
 use Rattle.frame.specs.declared.Refusal.{Refusal}
-use Rattle.rules.specs.Desk.{freshDesk}
 use Rattle.rules.specs.Box.{Box, freshBox, deskAt, frame, sighting, tick, Answer as RuleAnswer, refused, reply, seen, ok, AtDesk, request, served, sighted, placed, unlessRefused, frameRefusals, sightingRefusals, step, run}
 use Rattle.rules.specs.Events.{concerns, history, answersOf}
 use Rattle.rules.specs.Legal.{fitting}

@@ -14,11 +14,11 @@ use Rattle.store.specs.View.{view}
 use Rattle.store.specs.Sound.{sound}
 use Rattle.depot.specs.declared.Answer.{Answer}
 use Rattle.depot.specs.declared.Answer.the-variants.{Reply}
-use Rattle.host.specs.declared.Request.{Request}
-use Rattle.host.specs.declared.Told.{Told}
-use Rattle.host.specs.declared.Read.the-variants.{Sound}
-use Rattle.host.specs.Request.{controlOf, fieldsHold, dataFor}
-use Rattle.host.specs.Reader.{readAs}
+use Rattle.requests.specs.declared.Request.{Request}
+use Rattle.reader.specs.declared.Told.{Told}
+use Rattle.reader.specs.declared.Reading.the-variants.{Sound}
+use Rattle.requests.specs.Request.{controlOf, fieldsHold, dataFor}
+use Rattle.reader.specs.Reader.{readAs}
 
 -- a request that a frame can carry
 pub record Carriable (q : Request) : Type 0 where

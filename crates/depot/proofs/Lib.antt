@@ -2,3 +2,4 @@ pub mod Replying
 pub mod Calls
 pub mod Once
 pub mod Writes
+pub mod Short

@@ -43,10 +43,11 @@ module _ (f s out : List ℕ) (a : Answer) (s′ out′ : List ℕ) (called : Ca
       let t = rw (e, passed, is) at (called .ended) in
       (t .0, t .1, t .2 .1)
 
-  pub turned : writeLegal desk body ≡ false → view s′ ≡ view s
+  pub turned : writeLegal desk body ≡ false → (status : ℕ) × (status ≡ 0x00 → ⊥) × (a ≡ Reply (length (told status))) × (out′ ≡ put 0 (told status) out) × (view s′ ≡ view s)
   unfolding stepOn step unlessRefused placed served deskAt
   turned illegal =
-      let is : Turned desk (answered (request f .kind) desk (request f .control) body) =
+      let r = answered (request f .kind) desk (request f .control) body in
+      let is : Turned desk r =
       subst (λ (c : ℕ). Turned desk (answered (request f .kind) desk c body)) (sym write) (write-turned (request f .kind) desk body illegal) in
-      let t = rw (e, passed, is .same) at (called .ended) in
-      t .2 .1 ∙ set-getD (view s) (request f .address) freshDesk
+      let t = rw (e, passed, is .none, is .same) at (called .ended) in
+      (r .status, is .told, t .0, t .1, t .2 .1 ∙ set-getD (view s) (request f .address) freshDesk)

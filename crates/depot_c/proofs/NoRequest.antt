@@ -12,11 +12,11 @@ use Rattle.frame.specs.Judged.{faults}
 use Rattle.rules.specs.declared.Known.the-variants.{Unknown}
 use Rattle.rules.specs.Control.{known}
 use Rattle.rules.specs.Box.{noDesk}
-use Rattle.host.specs.declared.Request.{Request}
-use Rattle.host.specs.Request.{inRange}
-use Rattle.host.specs.Possible.{possible}
-use Rattle.host.specs.Maker.{makerRefusals}
-use Rattle.host.specs.Reader.{answersTo, readerRefusals}
+use Rattle.requests.specs.declared.Request.{Request}
+use Rattle.requests.specs.Request.{inRange}
+use Rattle.reader.specs.Possible.{possible}
+use Rattle.maker.specs.Maker.{makerRefusals}
+use Rattle.reader.specs.Reader.{answersTo, readerRefusals}
 use Rattle.depot_c.specs.Numbers.{noAsk, whole, requestOf}
 
 and-false : (a : Bool) → a && false ≡ false

@@ -15,10 +15,10 @@ use Rattle.frame.specs.declared.Refusal.the-variants.{WrongLength}
 use Rattle.frame.specs.Shape.{shapeOf}
 use Rattle.frame.specs.Judged.{kindOf, faults, partsOf}
 use Rattle.depot.proofs.Replying.{longest-fits}
-use Rattle.host.specs.declared.Request.{Request}
-use Rattle.host.specs.declared.Told.{Told}
-use Rattle.host.specs.declared.Read.the-variants.{Sound}
-use Rattle.host.specs.Reader.{reading, toldOf, readerRefusals, readAs}
+use Rattle.requests.specs.declared.Request.{Request}
+use Rattle.reader.specs.declared.Told.{Told}
+use Rattle.reader.specs.declared.Reading.the-variants.{Sound}
+use Rattle.reader.specs.Reader.{reading, toldOf, readerRefusals, readAs}
 use Rattle.depot_c.proofs.Fits.{lead-small}
 
 pub record Small (t : Told) : Type 0 where

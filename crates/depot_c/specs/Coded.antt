@@ -13,9 +13,9 @@ use Rattle.rules.specs.Box.{Event}
 use Rattle.rules.specs.Output.{Wrote}
 use Rattle.depot.specs.declared.Answer.{Answer}
 use Rattle.depot.specs.Called.{Called, Made}
-use Rattle.host.specs.declared.Request.{Request}
-use Rattle.host.specs.Request.{requestFrame}
-use Rattle.host.specs.Maker.{makerRefusals}
+use Rattle.requests.specs.declared.Request.{Request}
+use Rattle.requests.specs.Request.{requestFrame}
+use Rattle.maker.specs.Maker.{makerRefusals}
 use Rattle.lines.specs.Lines.{lineRefusals}
 use Rattle.depot_c.specs.Codes.{codeOf, writtenCode}
 

@@ -7,8 +7,8 @@ use Rattle.rules.specs.declared.Written.{Written}
 use Rattle.rules.specs.declared.Written.the-variants.{Octets, Refused as NotWritten}
 use Rattle.depot.specs.declared.Answer.{Answer}
 use Rattle.depot.specs.declared.Answer.the-variants.{Refused, Reply, Sighted, Done}
-use Rattle.host.specs.declared.Read.{Read}
-use Rattle.host.specs.declared.Read.the-variants.{Sound, Refused as NotRead}
+use Rattle.reader.specs.declared.Reading.{Reading}
+use Rattle.reader.specs.declared.Reading.the-variants.{Sound, Refused as NotRead}
 
 -- what a sighting came to
 abbrev pub seenCode : Seen → ℕ
@@ -29,6 +29,6 @@ writtenCode (NotWritten r) = numberOf r
 writtenCode (Octets n) = 256 + n
 
 -- the reader: 2^32 + status * 2^24 + start * 2^16 + len
-abbrev pub readCode : Read → ℕ
+abbrev pub readCode : Reading → ℕ
 readCode (NotRead r) = numberOf r
 readCode (Sound t) = 4294967296 + t .status * 16777216 + t .start * 65536 + t .len

@@ -11,9 +11,9 @@ use Rattle.rules.specs.declared.Command.the-variants.{Baud, Reset, SystemReset,
 use Rattle.rules.specs.declared.Known.{Known}
 use Rattle.rules.specs.declared.Known.the-variants.{Listed, Unknown}
 use Rattle.rules.specs.Control.{known}
-use Rattle.host.specs.declared.Ask.{Ask}
-use Rattle.host.specs.declared.Request.{Request}
-use Rattle.host.specs.Typed.{blockTold}
+use Rattle.requests.specs.declared.Ask.{Ask}
+use Rattle.requests.specs.declared.Request.{Request}
+use Rattle.typed.specs.Typed.{blockTold}
 
 -- an antenna mask is one octet; a larger number is as the mask 0, which a sighting refuses with 6
 unfoldable pub maskOf : ℕ → ℕ

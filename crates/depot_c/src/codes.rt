@@ -1,6 +1,6 @@
 // The number of an answer.
 use depot::Answer;
-use host::Read;
+use reader::Reading;
 use rules::Seen;
 use rules::Written;
 ghost use mathlib.Core.Path.{_≡_};
@@ -42,13 +42,13 @@ pub fn written_code(w: Written) -> u64
 }
 
 // Of the reader.
-pub fn read_code(a: Read) -> u64
+pub fn read_code(a: Reading) -> u64
     requires { ⌜ readCode a < 2 ^ 64 ⌝ }
     ensures { λ r. ⌜ r ≡ readCode a ⌝ }
 {
     match a {
-        Read::Refused(r) => r.number() as u64,
-        Read::Sound(t) => 4294967296
+        Reading::Refused(r) => r.number() as u64,
+        Reading::Sound(t) => 4294967296
             + t.status as u64 * 16777216
             + t.start as u64 * 65536
             + t.len as u64,

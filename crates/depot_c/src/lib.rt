@@ -11,7 +11,7 @@ ghost use lib.ListN.{length};
 ghost use Rattle.rules.specs.Box.{Event};
 ghost use Rattle.rules.specs.Line.{line};
 ghost use Rattle.lines.specs.Lines.{linesOf};
-ghost use Rattle.host.specs.Reader.{readAs};
+ghost use Rattle.reader.specs.Reader.{readAs};
 ghost use Rattle.depot_c.specs.Codes.{readCode};
 ghost use Rattle.depot_c.specs.Numbers.{maskOf, requestOf};
 ghost use Rattle.depot_c.specs.Coded.{CalledAs, MadeAs, WroteAs, FramedAs, lineTests, linesTests};
@@ -80,7 +80,7 @@ pub extern "C" fn depot_make(
     ensures { λ r. ⌜ FramedAs (requestOf kind desk control a b c (now (bytes .entry))) (now (out .entry)) r (now (out .exit)) ⌝ }
 {
     let q = request_of(kind, desk, control, a, b, c, bytes);
-    written_code(host::maker::make(q, out))
+    written_code(maker::make(q, out))
 }
 
 // Reads the reply to a request.
@@ -98,7 +98,7 @@ pub extern "C" fn depot_read(
     ensures { λ r. ⌜ r ≡ readCode (readAs (requestOf kind desk control a b c (now (bytes .entry))) (now (reply .entry))) ⌝ }
 {
     let q = request_of(kind, desk, control, a, b, c, bytes);
-    read_code(host::reader::read(q, reply))
+    read_code(reader::read(q, reply))
 }
 
 // ---- scan lines

@@ -1,7 +1,7 @@
 // Numbers and octets, read as a request.
 use frame::Kind;
-use host::Ask;
-use host::Request;
+use requests::Ask;
+use requests::Request;
 use rules::Command;
 use rules::Known;
 ghost use mathlib.Core.Path.{_≡_};
@@ -88,7 +88,7 @@ pub fn request_of(
 ) -> Request
     ensures { λ r. ⌜ r ≡ requestOf kind desk control a b c (now (bytes .entry)) ⌝ }
 {
-    let block = host::typed::block_in(bytes);
+    let block = typed::block_in(bytes);
     let fourteen = block.bytes;
     let ask = ask_if(is_whole(kind, control, bytes), control, a, b, c);
     Request {

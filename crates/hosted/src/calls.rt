@@ -3,9 +3,9 @@ use crate::read::part;
 use crate::read::request;
 use crate::tell;
 use depot::Answer;
-use host::Ask;
-use host::Request;
-use host::Told;
+use reader::Told;
+use requests::Ask;
+use requests::Request;
 use rules::Written;
 use show::Said;
 
@@ -25,7 +25,7 @@ fn hand(q: Request, octets: &[u8], store: &mut [u8], out: &mut [u8]) -> Told {
 // Makes a request, hands it to the box, and reads the reply.
 fn ask(q: Request, store: &mut [u8], out: &mut [u8]) -> Told {
     let mut buf = [0u8; 64];
-    match host::maker::make(q, &mut buf) {
+    match maker::make(q, &mut buf) {
         Written::Refused(r) => {
             tell::refused(r);
             tell::nothing()
@@ -52,7 +52,7 @@ fn seven(q: Request, store: &mut [u8], out: &mut [u8]) -> [u8; 14] {
         store,
         out,
     );
-    let b = host::typed::block_in(part(out, t.start, t.len));
+    let b = typed::block_in(part(out, t.start, t.len));
     b.bytes
 }
 

@@ -27,7 +27,7 @@ pub fn hear(text: &[u8]) {
 // Writes into what is lent.
 fn fill(letter: u8, text: &[u8], out: &mut [u8]) -> Written {
     match letter {
-        b'r' => host::maker::make(request(text), out),
+        b'r' => maker::make(request(text), out),
         b'b' => lines::lines(block(text), &TWO, out),
         _ => lines::line(block(text), SIGHTED, out),
     }

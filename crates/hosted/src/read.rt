@@ -1,7 +1,7 @@
 // Reading the words of a line, and a request from them.
 use frame::Kind;
-use host::Ask;
-use host::Request;
+use requests::Ask;
+use requests::Request;
 ghost use Prim.Native.Nat.{_≤_};
 ghost use lib.ListN.{length};
 

@@ -1,15 +1,15 @@
 // Printing what the host side says.
 use crate::read::part;
 use frame::Refusal;
-use host::Ask;
-use host::Read;
-use host::Request;
-use host::Told;
-use host::typed::RecordTold;
-use host::typed::Sighting;
-use host::typed::SizesTold;
-use host::typed::TimerTold;
+use reader::Reading;
+use reader::Told;
+use requests::Ask;
+use requests::Request;
 use timer::Timer;
+use typed::RecordTold;
+use typed::Sighting;
+use typed::SizesTold;
+use typed::TimerTold;
 
 pub fn refused(r: Refusal) {
     show::word(b"refused ");
@@ -45,7 +45,7 @@ fn clock(t: Timer) {
 }
 
 fn timed(sent: &[u8]) {
-    match host::typed::timer_in(sent) {
+    match typed::timer_in(sent) {
         TimerTold::Timer(t) => {
             show::word(b" ");
             clock(t);
@@ -55,7 +55,7 @@ fn timed(sent: &[u8]) {
 }
 
 fn blocked(sent: &[u8]) {
-    let b = host::typed::block_in(sent);
+    let b = typed::block_in(sent);
     if b.there {
         let bytes = b.bytes;
         show::word(b" ");
@@ -64,7 +64,7 @@ fn blocked(sent: &[u8]) {
 }
 
 fn sized(sent: &[u8]) {
-    match host::typed::sizes_in(sent) {
+    match typed::sizes_in(sent) {
         SizesTold::Sizes(s) => {
             show::word(b" ");
             show::number(s.size as u64);
@@ -90,7 +90,7 @@ fn sighted(s: Sighting) {
 }
 
 fn record_at(sent: &[u8], i: usize) {
-    match host::typed::record_in(sent, i) {
+    match typed::record_in(sent, i) {
         RecordTold::Record(s) => sighted(s),
         RecordTold::Nothing => (),
     }
@@ -118,12 +118,12 @@ fn typed(ask: Ask, sent: &[u8]) {
 
 // Reads the reply to a request: its status in hex, and what its data say.
 pub fn reply(q: Request, octets: &[u8]) -> Told {
-    match host::reader::read(q, octets) {
-        Read::Refused(r) => {
+    match reader::read(q, octets) {
+        Reading::Refused(r) => {
             refused(r);
             nothing()
         }
-        Read::Sound(t) => {
+        Reading::Sound(t) => {
             let ask = q.ask;
             show::hex(&[t.status]);
             typed(ask, part(octets, t.start, t.len));

@@ -3,12 +3,10 @@
 use libc::STDIN_FILENO;
 use libc::STDOUT_FILENO;
 use rules::Written;
+use text::LONGEST;
 use text::Reading;
 ghost use Prim.Native.Nat.{_≤_};
 ghost use lib.ListN.{length};
-
-// The longest line that is printed: the digits of a reply of 842 octets, and LF.
-const LONGEST: usize = 1685;
 
 // What is carried from octet to octet: the line that is being read, how many octets wait to be printed, and whether input may follow.
 struct Progress {

@@ -1,5 +1,6 @@
 pub mod Values
-pub mod Outcomes
+pub mod Printing
 pub mod Feeding
 pub mod Long
 pub mod Whole
+pub mod Rooms

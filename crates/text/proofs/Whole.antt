@@ -16,11 +16,10 @@ use Rattle.octets.proofs.Tests.{both}
 use Rattle.rules.specs.Box.{Event}
 use Rattle.depot.specs.declared.Answer.{Answer}
 use Rattle.depot.specs.Called.{Called}
-use Rattle.rules.specs.declared.Written.{Written}
 use Rattle.text.specs.declared.Reading.{Reading}
 use Rattle.text.specs.Digits.{decimal, isHex, octetsOf}
 use Rattle.text.specs.Listing.{Line, frame, tick, notRead, odd, isTick, isSighting, sightingOf, otherLine, lineOf, Printed, printed, Answered}
-use Rattle.text.specs.Reading.{Fed, readOff, Listed}
+use Rattle.text.specs.Reading.{Fed, readOff, ReadOff}
 use Rattle.text.proofs.Values.{bounds, octets-length}
 use Rattle.text.proofs.Long.{long-called}
 
@@ -88,17 +87,17 @@ sighting-facts s e =
     let desk = bounds 0x30 0x39 (getD s 1 0) (both (size && letter) digit three .1) in
     (eqb-true (length s) 20 (both size letter (both (size && letter) digit three .0) .0), desk .0, desk .1)
 
-pub sighting-answered : (s nine : List ℕ) (uid : ℕ) (store reply out : List ℕ) (a : Answer) (r : Written) (store′ out′ : List ℕ)
+pub sighting-answered : (s nine : List ℕ) (uid : ℕ) (store reply out : List ℕ) (a : Answer) (n : ℕ) (store′ out′ : List ℕ)
     → nine ≡ octetsOf (drop 2 s) → uid ≡ number (part 0 8 nine) → Called (Event.sighting (getD s 1 0 - 0x30) uid (getD nine 8 0)) store [] a store′ []
-    → Printed (printed a reply) out r out′ → Answered (sightingOf s) store reply out r store′ reply out′
+    → Printed (printed a reply) out n out′ → Answered (sightingOf s) store reply out n store′ reply out′
 unfolding sightingOf
-sighting-answered s nine uid store reply out a r store′ out′ e u q p = record { answers = (a, rw (u, e) at q, refl, p) }
+sighting-answered s nine uid store reply out a n store′ out′ e u q p = record { answers = (a, rw (u, e) at q, refl, p) }
 
 -- ---- both are answered alike
 
-module _ (s reply out : List ℕ) (r : Written) (s′ reply′ out′ : List ℕ) where
+module _ (s reply out : List ℕ) (n : ℕ) (s′ reply′ out′ : List ℕ) where
   abbrev Ends : Line → Type 0
-  Ends l = Answered l s reply out r s′ reply′ out′
+  Ends l = Answered l s reply out n s′ reply′ out′
 
   long-frames : (f g : List ℕ) → 842 < length f → 842 < length g → Ends (frame f) → Ends (frame g)
   long-frames f g h l q =
@@ -146,7 +145,7 @@ module _ (s reply out : List ℕ) (r : Written) (s′ reply′ out′ : List ℕ
     either true e q = hex-whole (odd text) refl e q
     either false e q = other-whole e q
 
-  pub listed : (at : Reading) (held : List ℕ) (l : Line) → readOff at held ≡ l → Ends l → Listed at held s reply out r s′ reply′ out′
-  listed at held l e q =
+  pub read-whole : (at : Reading) (held : List ℕ) (l : Line) → readOff at held ≡ l → Ends l → ReadOff at held s reply out n s′ reply′ out′
+  read-whole at held l e q =
       let read : Ends (readOff at held) = subst Ends (sym e) q in
       record { read = read; whole = λ text f room. either text at held f room (all isHex text) refl read }

@@ -4,18 +4,15 @@ use mathlib.Core.Path.{_≡_}
 use mathlib.Core.Bool.{Bool, false, cond, not, _&&_}
 use mathlib.Core.List.{List, [], _∷_, _++_}
 use lib.ListN.{length, getD, take, drop}
-use lib.Dec.{eqb, ltb}
-use Rattle.octets.specs.Tests.{first, all}
-use Rattle.octets.specs.Parts.{part}
+use lib.Dec.{eqb}
+use Rattle.octets.specs.Tests.{all}
+use Rattle.octets.specs.Parts.{part, put}
 use Rattle.octets.specs.Numbers.{number}
-use Rattle.frame.specs.declared.Refusal.the-variants.{NoRoom}
 use Rattle.frame.specs.Refusal.{numberOf}
 use Rattle.rules.specs.declared.Seen.{Seen}
 use Rattle.rules.specs.declared.Seen.the-variants.{Ignored, Lost, Recorded}
-use Rattle.rules.specs.declared.Written.{Written}
 use Rattle.rules.specs.Box.{Event}
 use Rattle.rules.specs.Line.{hex}
-use Rattle.rules.specs.Output.{Wrote}
 use Rattle.depot.specs.declared.Answer.{Answer}
 use Rattle.depot.specs.declared.Answer.the-variants.{Refused, Reply, Sighted, Done}
 use Rattle.depot.specs.Called.{Called}
@@ -82,20 +79,21 @@ printed (Reply n) reply = hexLine (take n reply)
 printed (Sighted w) reply = seenLine w
 printed Done reply = okLine
 
--- a text stands at the start of the output, whole; or there is too little room and nothing is written
-abbrev pub Printed : List ℕ → List ℕ → Written → List ℕ → Type 0
-Printed t out r out′ = Wrote (first ((NoRoom, ltb (length out) (length t)) ∷ [])) t out r out′
+-- a text stands at the start of the output, whole, and the octets after it stay
+pub record Printed (t out : List ℕ) (n : ℕ) (out′ : List ℕ) : Type 0 where
+  pub count-is : n ≡ length t
+  pub output-is : out′ ≡ put 0 t out
 
 -- ---- a line is answered: store, reply buffer and output before, how much is printed, and the three after
 
-abbrev pub Answers : Line → List ℕ → List ℕ → List ℕ → Written → List ℕ → List ℕ → List ℕ → Type 0
-Answers (frame f) s reply out r s′ reply′ out′ =
-    (a : Answer) × Called (Event.frame f (length reply)) s reply a s′ reply′ × Printed (printed a reply′) out r out′
-Answers (sighting desk uid mask) s reply out r s′ reply′ out′ =
-    (a : Answer) × Called (Event.sighting desk uid mask) s [] a s′ [] × (reply′ ≡ reply) × Printed (printed a reply) out r out′
-Answers tick s reply out r s′ reply′ out′ =
-    (a : Answer) × Called Event.tick s [] a s′ [] × (reply′ ≡ reply) × Printed (printed a reply) out r out′
-Answers notRead s reply out r s′ reply′ out′ = (s′ ≡ s) × (reply′ ≡ reply) × Printed notReadLine out r out′
+abbrev pub Answers : Line → List ℕ → List ℕ → List ℕ → ℕ → List ℕ → List ℕ → List ℕ → Type 0
+Answers (frame f) s reply out n s′ reply′ out′ =
+    (a : Answer) × Called (Event.frame f (length reply)) s reply a s′ reply′ × Printed (printed a reply′) out n out′
+Answers (sighting desk uid mask) s reply out n s′ reply′ out′ =
+    (a : Answer) × Called (Event.sighting desk uid mask) s [] a s′ [] × (reply′ ≡ reply) × Printed (printed a reply) out n out′
+Answers tick s reply out n s′ reply′ out′ =
+    (a : Answer) × Called Event.tick s [] a s′ [] × (reply′ ≡ reply) × Printed (printed a reply) out n out′
+Answers notRead s reply out n s′ reply′ out′ = (s′ ≡ s) × (reply′ ≡ reply) × Printed notReadLine out n out′
 
-pub record Answered (l : Line) (s reply out : List ℕ) (r : Written) (s′ reply′ out′ : List ℕ) : Type 0 where
-  pub answers : Answers l s reply out r s′ reply′ out′
+pub record Answered (l : Line) (s reply out : List ℕ) (n : ℕ) (s′ reply′ out′ : List ℕ) : Type 0 where
+  pub answers : Answers l s reply out n s′ reply′ out′

@@ -1,12 +1,16 @@
 -- A line that is read octet by octet in bounded memory: what is held of it, and that this is enough. Assumes nothing.
 use Prim.Native.Nat.{ℕ, _+_, _≤_, min}
 use mathlib.Core.Path.{_≡_}
-use mathlib.Core.Bool.{true, cond, not, _||_}
+use mathlib.Core.Bool.{Bool, true, cond, not, _||_}
 use mathlib.Core.List.{List, [], _∷_, _++_}
+use mathlib.Core.Option.{Option, none, some}
 use lib.ListN.{length, take, set}
 use lib.Dec.{ltb}
-use Rattle.octets.specs.Tests.{all}
+use Rattle.octets.specs.Tests.{all, first}
+use Rattle.frame.specs.declared.Refusal.{Refusal}
+use Rattle.frame.specs.declared.Refusal.the-variants.{NoRoom}
 use Rattle.rules.specs.declared.Written.{Written}
+use Rattle.rules.specs.declared.Written.the-variants.{Octets, Refused}
 use Rattle.text.specs.declared.Reading.{Reading}
 use Rattle.text.specs.Digits.{isHex, octetsOf}
 use Rattle.text.specs.Listing.{Line, frame, notRead, odd, otherLine, lineOf, Answered}
@@ -44,6 +48,21 @@ readOff at held =
     (cond (at .odd) notRead (frame (octetsOf (take (at .held) held))))
 
 -- what was read is answered; and where a text was fed into a buffer of 1686 octets or more, its line is answered, however long it is
+pub record ReadOff (at : Reading) (held s reply out : List ℕ) (n : ℕ) (s′ reply′ out′ : List ℕ) : Type 0 where
+  pub read : Answered (readOff at held) s reply out n s′ reply′ out′
+  pub whole : (text : List ℕ) → Fed text at held → 1686 ≤ length held → Answered (lineOf text) s reply out n s′ reply′ out′
+
+-- the longest line that is printed: the digits of a reply of 842 octets, and LF
+abbrev pub longestLine : ℕ
+longestLine = 1685
+
+unfoldable pub listRefusals : List ℕ → List (Refusal × Bool)
+listRefusals out = (NoRoom, ltb (length out) longestLine) ∷ []
+
+-- a refused call leaves store, reply buffer and output octet for octet
+abbrev pub Lists : Option Refusal → Reading → List ℕ → List ℕ → List ℕ → List ℕ → Written → List ℕ → List ℕ → List ℕ → Type 0
+Lists (some why) at held s reply out r s′ reply′ out′ = (r ≡ Refused why) × (s′ ≡ s) × (reply′ ≡ reply) × (out′ ≡ out)
+Lists none at held s reply out r s′ reply′ out′ = (n : ℕ) × (r ≡ Octets n) × ReadOff at held s reply out n s′ reply′ out′
+
 pub record Listed (at : Reading) (held s reply out : List ℕ) (r : Written) (s′ reply′ out′ : List ℕ) : Type 0 where
-  pub read : Answered (readOff at held) s reply out r s′ reply′ out′
-  pub whole : (text : List ℕ) → Fed text at held → 1686 ≤ length held → Answered (lineOf text) s reply out r s′ reply′ out′
+  pub lists : Lists (first (listRefusals out)) at held s reply out r s′ reply′ out′

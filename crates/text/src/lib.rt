@@ -3,6 +3,7 @@ use digits::all_hex;
 use digits::between;
 use digits::decode;
 use digits::is_hex;
+use frame::Refusal;
 use print::least;
 use print::not_read;
 use print::show;
@@ -10,13 +11,17 @@ use rules::Written;
 ghost use mathlib.Core.Path.{_≡_};
 ghost use mathlib.Core.Bool.{true, not, _||_};
 ghost use mathlib.Core.List.{List, []};
-ghost use Prim.Native.Nat.{ℕ};
+ghost use Prim.Native.Nat.{ℕ, _≤_};
+ghost use lib.ListN.{length};
 ghost use Rattle.text.specs.Digits.{isHex, octetsOf};
 ghost use Rattle.text.specs.Listing.{Line, isTick, isSighting, sightingOf, otherLine, Answered};
-ghost use Rattle.text.specs.Reading.{Fed, Feeds, Listed};
+ghost use Rattle.text.specs.Reading.{Fed, Feeds, ReadOff, longestLine, Listed};
 
 mod digits;
 mod print;
+
+// The longest line that is printed: the digits of a reply of 842 octets, and LF.
+pub const LONGEST: usize = 1685;
 
 // What is known of a line beside the octets that are held: how many those are, whether there were more than there is room for,
 // whether their number is odd, and whether one was no hex digit.
@@ -74,7 +79,8 @@ pub fn feed(state: Reading, held: &mut [u8], c: u8) -> Reading
 }
 
 // Answers a frame; of one that is longer than any may be, the first octets are enough to refuse it.
-fn framed(s: &[u8], store: &mut [u8], reply: &mut [u8], out: &mut [u8]) -> Written
+fn framed(s: &[u8], store: &mut [u8], reply: &mut [u8], out: &mut [u8]) -> usize
+    requires { ⌜ longestLine ≤ length (now out) ⌝ }
     ensures { λ r. ⌜ Answered (Line.frame (octetsOf (now (s .entry)))) (now (store .entry)) (now (reply .entry)) (now (out .entry)) r (now (store .exit)) (now (reply .exit)) (now (out .exit)) ⌝ }
 {
     let mut frame = [0u8; 843];
@@ -108,8 +114,8 @@ fn is_sighting(s: &[u8]) -> bool
 }
 
 // Answers a sighting.
-fn sighted(s: &[u8], store: &mut [u8], reply: &mut [u8], out: &mut [u8]) -> Written
-    requires { ⌜ isSighting (now s) ≡ true ⌝ }
+fn sighted(s: &[u8], store: &mut [u8], reply: &mut [u8], out: &mut [u8]) -> usize
+    requires { ⌜ (isSighting (now s) ≡ true) × (longestLine ≤ length (now out)) ⌝ }
     ensures { λ r. ⌜ Answered (sightingOf (now (s .entry))) (now (store .entry)) (now (reply .entry)) (now (out .entry)) r (now (store .exit)) (now (reply .exit)) (now (out .exit)) ⌝ }
 {
     let mut nine = [0u8; 9];
@@ -120,7 +126,8 @@ fn sighted(s: &[u8], store: &mut [u8], reply: &mut [u8], out: &mut [u8]) -> Writ
 }
 
 // Answers a line that is no hex.
-fn other(s: &[u8], store: &mut [u8], reply: &mut [u8], out: &mut [u8]) -> Written
+fn other(s: &[u8], store: &mut [u8], reply: &mut [u8], out: &mut [u8]) -> usize
+    requires { ⌜ longestLine ≤ length (now out) ⌝ }
     ensures { λ r. ⌜ Answered (otherLine (now (s .entry))) (now (store .entry)) (now (reply .entry)) (now (out .entry)) r (now (store .exit)) (now (reply .exit)) (now (out .exit)) ⌝ }
 {
     if is_tick(s) {
@@ -133,15 +140,16 @@ fn other(s: &[u8], store: &mut [u8], reply: &mut [u8], out: &mut [u8]) -> Writte
     not_read(out)
 }
 
-// Answers the line that was fed: the box is called, and what is to be printed stands at the start of the output.
-pub fn answer(
+// Answers the line that was fed, in an output that has room for any line.
+fn read_off(
     state: Reading,
     held: &[u8],
     store: &mut [u8],
     reply: &mut [u8],
     out: &mut [u8],
-) -> Written
-    ensures { λ r. ⌜ Listed state (now (held .entry)) (now (store .entry)) (now (reply .entry)) (now (out .entry)) r (now (store .exit)) (now (reply .exit)) (now (out .exit)) ⌝ }
+) -> usize
+    requires { ⌜ longestLine ≤ length (now out) ⌝ }
+    ensures { λ r. ⌜ ReadOff state (now (held .entry)) (now (store .entry)) (now (reply .entry)) (now (out .entry)) r (now (store .exit)) (now (reply .exit)) (now (out .exit)) ⌝ }
 {
     let n = least(state.held, held.len());
     if state.bad {
@@ -154,4 +162,21 @@ pub fn answer(
         return not_read(out);
     }
     framed(&held[..n], store, reply, out)
+}
+
+// Answers the line that was fed: the box is called, and what is to be printed stands at the start of the output. Where that has no
+// room for the longest line the box is not called.
+pub fn answer(
+    state: Reading,
+    held: &[u8],
+    store: &mut [u8],
+    reply: &mut [u8],
+    out: &mut [u8],
+) -> Written
+    ensures { λ r. ⌜ Listed state (now (held .entry)) (now (store .entry)) (now (reply .entry)) (now (out .entry)) r (now (store .exit)) (now (reply .exit)) (now (out .exit)) ⌝ }
+{
+    if out.len() < LONGEST {
+        return Written::Refused(Refusal::NoRoom);
+    }
+    Written::Octets(read_off(state, held, store, reply, out))
 }

@@ -1,14 +1,11 @@
-// What is printed for an answer, written at the start of an output: all of it, or nothing.
+// What is printed for an answer, written at the start of an output that has room for it. Each gives how many octets.
 use depot::Answer;
 use frame::Refusal;
 use rules::Seen;
-use rules::Written;
 ghost use mathlib.Core.Path.{_≡_};
-ghost use Prim.Native.Nat.{_*_, _≤_, _<_, min};
+ghost use Prim.Native.Nat.{_≤_, min};
 ghost use lib.ListN.{length};
-ghost use Rattle.octets.specs.Parts.{put};
 ghost use Rattle.frame.specs.Refusal.{numberOf};
-ghost use Rattle.rules.specs.Line.{digit, hex};
 ghost use Rattle.text.specs.Listing.{Printed, printed, refusedLine, hexLine, seenLine, notReadLine};
 
 pub fn least(a: usize, b: usize) -> usize
@@ -18,34 +15,27 @@ pub fn least(a: usize, b: usize) -> usize
 }
 
 // Writes a text.
-fn say(text: &[u8], out: &mut [u8]) -> Written
+fn say(text: &[u8], out: &mut [u8]) -> usize
+    requires { ⌜ length (now text) ≤ length (now out) ⌝ }
     ensures { λ r. ⌜ Printed (now (text .entry)) (now (out .entry)) r (now (out .exit)) ⌝ }
 {
-    if out.len() < text.len() {
-        return Written::Refused(Refusal::NoRoom);
-    }
     octets::copy_to(out, 0, text);
-    Written::Octets(text.len())
+    text.len()
 }
 
 // Writes octets as a line of hex digits.
-fn say_hex(s: &[u8], out: &mut [u8]) -> Written
+fn say_hex(s: &[u8], out: &mut [u8]) -> usize
+    requires { ⌜ length (hexLine (now s)) ≤ length (now out) ⌝ }
     ensures { λ r. ⌜ Printed (hexLine (now (s .entry))) (now (out .entry)) r (now (out .exit)) ⌝ }
 {
-    if out.len() == 0 {
-        return Written::Refused(Refusal::NoRoom);
-    }
-    // By division: the product could be too large for a number.
-    if (out.len() - 1) / 2 < s.len() {
-        return Written::Refused(Refusal::NoRoom);
-    }
     hex::put_hex(s, out, 0);
     let end = 2 * s.len();
     out[end] = b'\n';
-    Written::Octets(end + 1)
+    end + 1
 }
 
-fn say_refused(why: Refusal, out: &mut [u8]) -> Written
+fn say_refused(why: Refusal, out: &mut [u8]) -> usize
+    requires { ⌜ 10 ≤ length (now out) ⌝ }
     ensures { λ r. ⌜ Printed (refusedLine (numberOf why)) (now (out .entry)) r (now (out .exit)) ⌝ }
 {
     let n = 0x30 + why.number();
@@ -55,7 +45,8 @@ fn say_refused(why: Refusal, out: &mut [u8]) -> Written
     )
 }
 
-fn say_seen(seen: Seen, out: &mut [u8]) -> Written
+fn say_seen(seen: Seen, out: &mut [u8]) -> usize
+    requires { ⌜ 10 ≤ length (now out) ⌝ }
     ensures { λ r. ⌜ Printed (seenLine seen) (now (out .entry)) r (now (out .exit)) ⌝ }
 {
     match seen {
@@ -65,14 +56,16 @@ fn say_seen(seen: Seen, out: &mut [u8]) -> Written
     }
 }
 
-pub fn not_read(out: &mut [u8]) -> Written
+pub fn not_read(out: &mut [u8]) -> usize
+    requires { ⌜ 10 ≤ length (now out) ⌝ }
     ensures { λ r. ⌜ Printed notReadLine (now (out .entry)) r (now (out .exit)) ⌝ }
 {
     say(b"not read\n", out)
 }
 
 // Writes what is printed for an answer of the box, with the reply buffer after it.
-pub fn show(a: Answer, reply: &[u8], out: &mut [u8]) -> Written
+pub fn show(a: Answer, reply: &[u8], out: &mut [u8]) -> usize
+    requires { ⌜ (10 ≤ length (now out)) × (length (printed a (now reply)) ≤ length (now out)) ⌝ }
     ensures { λ r. ⌜ Printed (printed a (now (reply .entry))) (now (out .entry)) r (now (out .exit)) ⌝ }
 {
     match a {

@@ -13,7 +13,7 @@ use second::model::Depot;
 use second::{place, store::load};
 use std::hint::black_box;
 use std::time::Instant;
-use stores::{empty, full, UID};
+use stores::{empty, full, read_out, UID};
 
 const BATCHES: usize = 40;
 
@@ -128,6 +128,7 @@ fn main() {
         sighting_row(&format!("sightings of new tags, {state}"), store, 1 << 40, 1);
         tick_row(&format!("tick, {state}"), store);
     }
+    sighting_row("new tags where 64 locks stand", &read_out(), 1 << 40, 1);
     mix_row("random events, from the start", &empty, 7, 0);
     mix_row("random events, after 200000", &empty, 7, 200_000);
     let fresh = time(&empty, 50, |s, _| _ = black_box(raw::fresh(s)));

@@ -1,13 +1,8 @@
 -- `depot::served` meets its contract: refusal 5, else the reply of the desk, sealed; a reply always fits. Assumes nothing.
-use mathlib.Core.Path.{_≡_, sym, _∙_}
-use Prim.Native.Nat.{ℕ, _+_, _-_}
-use mathlib.Core.List.{List}
+use mathlib.Core.Path.{sym, _∙_}
 use native.Mathlib.Omega.{arith}
-use lib.ListN.{length, take, drop}
-use Rattle.octets.specs.Parts.{part}
+use lib.ListN.{length}
 use Rattle.frame.specs.declared.Way.the-variants.{Request}
-use Rattle.frame.specs.declared.Frame.{Frame}
-use Rattle.frame.specs.Judged.{dataOf}
 use Rattle.frame.proofs.Verdict.{sound-fits, data-lent}
 use Rattle.rules.proofs.Refusals.{no-desk}
 use Rattle.depot.proofs.Calls.{frame-refused, frame-replied, frame-sealed}

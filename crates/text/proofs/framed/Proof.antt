@@ -5,7 +5,9 @@ use native.Mathlib.Omega.{arith}
 use borrow.Author.Needs.{needs}
 use lib.ListN.{length, length-take, length-replicate}
 use Rattle.octets.proofs.Puts.{put-length}
+use Rattle.depot.proofs.Short.{frame-short}
 use Rattle.text.proofs.Long.{handed-on}
+use Rattle.text.proofs.Printing.{room-for}
 use Rattle.text.proofs.framed.Statement.{statement}
 use Rattle.text.proofs.framed.Tie as tie
 
@@ -13,6 +15,14 @@ slice-aggregate-frame : tie.Need-slice-aggregate-frame
 slice-aggregate-frame c =
     let d = c .before .before .before .decode in
     simp length-take (omega (arith, d .ensures .0, ap length (d .ensures .1) ∙ put-length _ _ _ ∙ length-replicate {A = ℕ} 843 0))
+
+-- a reply is short, so that there is room for its digits
+show-requires : tie.Need-show-requires
+show-requires c κs =
+    let f = c .before .before .before .before .before .before in
+    let k = f .before .before .before .before .before .before .before .before .before in
+    let z = k .before .before in
+    room-for _ _ (z .args .out .now) (frame-short (z .args .store .now) (z .args .reply .now) _ _ _ _ _ (λ i. k .slice-known .given i .fits) (f .frame4 .ensures)) (z .pre)
 
 returns : tie.Need-returns
 returns c =
@@ -35,7 +45,7 @@ framed-spec =
     (λ c. search needs)
     slice-aggregate-frame
     (λ c κs. search needs)
-    (λ c κs. search needs)
+    show-requires
     (λ c. search needs)
     (λ c. search needs)
     (λ c. search needs)

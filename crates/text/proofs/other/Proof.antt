@@ -1,9 +1,18 @@
 -- `text::other` meets its contract. Assumes nothing.
+use mathlib.Core.List.{[]}
 use mathlib.Core.Path.{refl, sym, _∙_}
+use Rattle.depot.proofs.Short.{tick-short}
+use Rattle.text.proofs.Printing.{room-for}
 use Rattle.text.proofs.Whole.{other-tick, other-sighting, other-none}
 use borrow.Author.Needs.{needs}
 use Rattle.text.proofs.other.Statement.{statement}
 use Rattle.text.proofs.other.Tie as tie
+
+show-requires : tie.Need-show-requires
+show-requires c κs =
+    let t = c .before .before .before .before in
+    let z = t .before .before .before .before .before .before .before .before in
+    room-for _ _ (z .args .out .now) (tick-short (z .args .store .now) [] _ _ _ (t .tick .ensures)) (z .pre)
 
 returns : tie.Need-returns
 returns c =
@@ -13,7 +22,7 @@ returns c =
     (record { answers = (t .tick .result, t .tick .ensures, refl, c .before .before .show .ensures) })
 
 sighted-requires : tie.Need-sighted-requires
-sighted-requires c κs = let two = c .before .before .before in sym (two .before .is-sighting .ensures) ∙ two .if2 .taken
+sighted-requires c κs = let two = c .before .before .before in (sym (two .before .is-sighting .ensures) ∙ two .if2 .taken, search needs)
 
 returns-2 : tie.Need-returns-2
 returns-2 c =
@@ -35,7 +44,7 @@ other-spec =
     (tie.spec
     (λ c κs. search needs)
     (λ c κs. search needs)
-    (λ c κs. search needs)
+    show-requires
     (λ c. search needs)
     (λ c. search needs)
     (λ c. search needs)

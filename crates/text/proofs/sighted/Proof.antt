@@ -1,16 +1,19 @@
 -- `text::sighted` meets its contract: the desk digit is decimal, and nine octets stand behind it. Assumes nothing.
 use Prim.Native.Nat.{ℕ, _≤_}
 use mathlib.Core.Path.{_≡_}
+use mathlib.Core.List.{[]}
 use native.Mathlib.Omega.{arith}
 use borrow.Author.Needs.{needs}
 use lib.ListN.{length, getD, length-replicate}
+use Rattle.depot.proofs.Short.{sighting-short}
+use Rattle.text.proofs.Printing.{room-for}
 use Rattle.text.proofs.Values.{nine-octets, rest-of}
 use Rattle.text.proofs.Whole.{sighting-facts, sighting-answered}
 use Rattle.text.proofs.sighted.Statement.{statement}
 use Rattle.text.proofs.sighted.Tie as tie
 
 facts : (z : tie.Start) → (length (z .args .s .now) ≡ 20) × (0x30 ≤ getD (z .args .s .now) 1 0) × (getD (z .args .s .now) 1 0 ≤ 0x39)
-facts z = sighting-facts (z .args .s .now) (z .pre)
+facts z = sighting-facts (z .args .s .now) (z .pre .0)
 
 sub-decode : tie.Need-sub-decode
 sub-decode c = omega (arith, facts (c .before .before .before .before))
@@ -26,6 +29,12 @@ sub-desk c = omega (arith, facts (c .before .before .before .before .before .bef
 
 cast-sighting : tie.Need-cast-sighting
 cast-sighting c = omega (arith, facts (c .before .before .before .before .before .before .before .before .before .before))
+
+show-requires : tie.Need-show-requires
+show-requires c κs =
+    let t = c .before .before .before .before in
+    let z = t .before .before .before .before .before .before .before .before .before .before .before .before .before in
+    room-for _ _ (z .args .out .now) (sighting-short (z .args .store .now) [] _ _ _ _ _ _ (t .sighting .ensures)) (z .pre .1)
 
 returns : tie.Need-returns
 returns c =
@@ -53,7 +62,7 @@ sighted-spec =
     (λ c κs. search needs)
     (λ c. search needs)
     (λ c κs. search needs)
-    (λ c κs. search needs)
+    show-requires
     (λ c. search needs)
     (λ c. search needs)
     (λ c. search needs)

@@ -1,33 +1,27 @@
 -- `text::print::say_hex` meets its contract. Assumes nothing.
+use mathlib.Core.Path.{ap, _∙_}
 use native.Mathlib.Omega.{arith}
-use Rattle.text.specs.Listing.{hexLine}
-use Rattle.text.proofs.Outcomes.{no-room, done, hex-line-length, hex-line-put}
+use lib.ListN.{length}
+use Rattle.octets.proofs.Puts.{put-length}
+use Rattle.text.proofs.Printing.{hex-line-length, hex-line-put}
 use borrow.Author.Needs.{needs}
 use Rattle.text.proofs.print.say_hex.Statement.{statement}
 use Rattle.text.proofs.print.say_hex.Tie as tie
 
+put-hex-requires : tie.Need-put-hex-requires
+put-hex-requires c κs = let z = c .before .before .before in omega (arith, z .pre, hex-line-length (z .args .s .now))
+
+slice-write-out : tie.Need-slice-write-out
+slice-write-out c =
+    let p = c .before .before in
+    let z = p .before .before .before .before in
+    omega (arith, z .pre, hex-line-length (z .args .s .now), ap length (p .put-hex .ensures) ∙ put-length _ _ _)
+
 returns : tie.Need-returns
-returns c = let a = c .before .before .before .args in no-room (hexLine (a .s .now)) (a .out .now) (omega (arith, hex-line-length (a .s .now)))
-
-returns-2 : tie.Need-returns-2
-returns-2 c = let a = c .before .before .before .before .args in no-room (hexLine (a .s .now)) (a .out .now) (omega (arith, hex-line-length (a .s .now)))
-
-returns-3 : tie.Need-returns-3
-returns-3 c =
-    let a = c .before .before .before .before .before .before .before .before .args in
-    let n = hex-line-length (a .s .now) in
-    done (hexLine (a .s .now)) (a .out .now) _ _ (omega (arith, n)) (omega (arith, n)) (hex-line-put (a .s .now) (a .out .now) _ (c .before .before .put-hex .ensures))
+returns c =
+    let p = c .before .before in
+    let a = p .before .before .before .before .args in
+    record { count-is = omega (arith, hex-line-length (a .s .now)); output-is = hex-line-put (a .s .now) (a .out .now) _ (p .put-hex .ensures) }
 
 pub say-hex-spec : {M : Type 1} → statement M
-say-hex-spec =
-    tie.close
-    (tie.spec
-    returns
-    (λ c. search needs)
-    returns-2
-    (λ c κs. search needs)
-    (λ c. search needs)
-    (λ c. search needs)
-    (λ c. search needs)
-    (λ c. search needs)
-    returns-3)
+say-hex-spec = tie.close (tie.spec put-hex-requires (λ c. search needs) slice-write-out (λ c. search needs) (λ c. search needs) returns)

@@ -7,6 +7,13 @@ use Rattle.text.proofs.Values.{take-least}
 use Rattle.text.proofs.print.show.Statement.{statement}
 use Rattle.text.proofs.print.show.Tie as tie
 
+-- the digits of the reply are what is printed
+say-hex-requires : tie.Need-say-hex-requires
+unfolding printed
+say-hex-requires c κs =
+    let m = c .before .before in
+    rw (take-least _ _ _ (m .least .ensures .0)) (rw (m .before .before .a2 .given .1) at (m .before .before .before .before .before .before .pre .1))
+
 returns : tie.Need-returns
 unfolding printed
 returns c = rw (c .before .before .before .before .before .a .given .1) (c .before .before .say-refused .ensures)
@@ -34,7 +41,7 @@ show-spec =
     (λ c. search needs)
     (λ c κs. search needs)
     (λ c. simp length-take (omega arith))
-    (λ c κs. search needs)
+    say-hex-requires
     (λ c. search needs)
     (λ c κs. search needs)
     (λ c. search needs)

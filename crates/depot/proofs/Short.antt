@@ -1,0 +1,95 @@
+-- No answer is a reply of more than 842 octets. Assumes nothing.
+use Prim.Native.Nat.{ℕ, _≤_}
+use mathlib.Core.Path.{_≡_, refl}
+use mathlib.Core.Bool.{Bool, true, false, cond}
+use mathlib.Core.List.{List, _∷_}
+use mathlib.Core.Option.{Option, none, some}
+use native.Mathlib.Omega.{arith}
+use lib.ListN.{length}
+use Rattle.octets.specs.Tests.{first}
+use Rattle.octets.specs.Numbers.{Octets}
+use Rattle.frame.specs.declared.Refusal.{Refusal}
+use Rattle.frame.specs.declared.Refusal.the-variants.{Unsound}
+use Rattle.frame.specs.Judged.{partsOf, dataOf}
+use Rattle.frame.proofs.Seal.{length-frame}
+use Rattle.rules.specs.Control.{known}
+use Rattle.rules.specs.Command.{answered}
+use Rattle.rules.specs.Desk.{Desk}
+use Rattle.rules.specs.Box.{Box, Event, frame, sighting, tick, Answer as RuleAnswer, refused, reply, seen, ok, Step, step, request, served, sighted, deskAt, placed, unlessRefused, frameRefusals, sightingRefusals}
+use Rattle.rules.proofs.Facts.{DeskLegal}
+use Rattle.rules.proofs.Replies.{obey-carried}
+use Rattle.store.specs.Sound.{sound}
+use Rattle.store.specs.View.{view}
+use Rattle.store.proofs.LegalView.{desk-of-view}
+use Rattle.depot.specs.declared.Answer.{Answer}
+use Rattle.depot.specs.declared.Answer.the-variants.{Refused, Reply, Sighted, Done}
+use Rattle.depot.specs.Called.{Called, Ended, stepOn}
+use Rattle.depot.proofs.Replying.{longest-fits}
+
+abbrev pub Short : Answer → Type 0
+Short (Refused r) = Unit {0}
+Short (Reply n) = n ≤ 842
+Short (Sighted w) = Unit {0}
+Short Done = Unit {0}
+
+-- ---- of the rules' answers
+
+abbrev Brief : RuleAnswer → Type 0
+Brief (refused r) = Unit {0}
+Brief (reply t) = length t ≤ 842
+Brief (seen w) = Unit {0}
+Brief ok = Unit {0}
+
+-- a step's answer is brief where what it gives unless it is refused is brief
+unless-brief : (o : Option Refusal) (box : Box) (p : Step) → Brief (p .answer) → Brief (unlessRefused o box p .answer)
+unfolding unlessRefused
+unless-brief none box p h = h
+unless-brief (some r) box p h = tt
+
+on-brief : (s : List ℕ) (e : Event) → (sound s ≡ true → Brief (step (view s) e .answer)) → Brief (stepOn s e .answer)
+unfolding stepOn
+on-brief s e h = go (sound s) h
+  where
+    go : (b : Bool) → (b ≡ true → Brief (step (view s) e .answer)) → Brief (cond b (step (view s) e) record { answer = refused Unsound; box = view s } .answer)
+    go true f = f refl
+    go false f = tt
+
+served-brief : (f : List ℕ) (d : Desk) → DeskLegal d → Brief (served f d .answer)
+unfolding served answered request partsOf
+served-brief f d legal =
+    let p = request f in
+    let r = answered (p .kind) d (p .control) (dataOf p f) in
+    let small = obey-carried (known (p .control)) (p .kind) d (dataOf p f) legal .small in
+    omega (arith, length-frame (p .kind) (p .address) (p .control) (r .status ∷ r .sent), longest-fits (p .kind))
+
+frame-brief : (f s : List ℕ) (room : ℕ) → Octets s → sound s ≡ true → Brief (step (view s) (frame f room) .answer)
+unfolding step placed
+frame-brief f s room o e =
+    let n = request f .address in
+    unless-brief (first (frameRefusals f room)) (view s) (placed (view s) n (served f (deskAt (view s) n))) (served-brief f (deskAt (view s) n) (desk-of-view s n e o))
+
+sighting-brief : (n uid mask : ℕ) (s : List ℕ) → Brief (step (view s) (sighting n uid mask) .answer)
+unfolding step placed sighted
+sighting-brief n uid mask s = unless-brief (first (sightingRefusals n mask)) (view s) (placed (view s) n (sighted uid mask (deskAt (view s) n))) tt
+
+-- ---- of a call's
+
+ended-short : (t : RuleAnswer) (box : Box) (s out : List ℕ) (a : Answer) (s′ out′ : List ℕ) → Brief t → Ended t box s out a s′ out′ → Short a
+ended-short (refused r) box s out a s′ out′ h e = rw (e .0) tt
+ended-short (reply t) box s out a s′ out′ h e = rw (e .0) h
+ended-short (seen w) box s out a s′ out′ h e = rw (e .0) tt
+ended-short ok box s out a s′ out′ h e = rw (e .0) tt
+
+module _ (s out : List ℕ) (a : Answer) (s′ out′ : List ℕ) where
+  called-short : (e : Event) → (sound s ≡ true → Brief (step (view s) e .answer)) → Called e s out a s′ out′ → Short a
+  called-short e h c = ended-short (stepOn s e .answer) (stepOn s e .box) s out a s′ out′ (on-brief s e h) (c .ended)
+
+  pub frame-short : (f : List ℕ) (room : ℕ) → Octets s → Called (frame f room) s out a s′ out′ → Short a
+  frame-short f room o c = called-short (frame f room) (frame-brief f s room o) c
+
+  pub sighting-short : (n uid mask : ℕ) → Called (sighting n uid mask) s out a s′ out′ → Short a
+  sighting-short n uid mask c = called-short (sighting n uid mask) (λ _. sighting-brief n uid mask s) c
+
+  pub tick-short : Called tick s out a s′ out′ → Short a
+  unfolding step
+  tick-short c = called-short tick (λ _. tt) c

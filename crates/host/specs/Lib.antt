@@ -1,5 +1,0 @@
-pub mod Request
-pub mod Maker
-pub mod Possible
-pub mod Reader
-pub mod Typed

@@ -1,0 +1,13 @@
+-- `maker::octets32` meets its contract. Assumes nothing.
+use native.Mathlib.Nat.{div-one}
+use Rattle.octets.specs.Numbers.{octets}
+use borrow.Author.Needs.{needs}
+use Rattle.maker.proofs.octets32.Statement.{statement}
+use Rattle.maker.proofs.octets32.Tie as tie
+
+returns : tie.Need-returns
+unfolding octets
+returns c = simp div-one
+
+pub octets32-spec : {M : Type 1} → statement M
+octets32-spec = tie.close (tie.spec (λ c. search needs) (λ c. search needs) (λ c. search needs) (λ c. search needs) returns)

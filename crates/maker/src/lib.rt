@@ -1,0 +1,150 @@
+// The maker: a request becomes a frame at the start of a lent output.
+use frame::Refusal;
+use frame::Sealed;
+use frame::Way;
+use requests::Ask;
+use requests::Request;
+use requests::control_of;
+use requests::range::in_range;
+use rules::Written;
+ghost use mathlib.Core.Path.{_≡_};
+ghost use mathlib.Core.Bool.{true, false};
+ghost use Prim.Native.Nat.{_≤_, _<_};
+ghost use mathlib.Core.List.{[], _∷_};
+ghost use lib.ListN.{length};
+ghost use Rattle.octets.specs.Parts.{put};
+ghost use Rattle.octets.specs.Numbers.{octets};
+ghost use Rattle.frame.specs.declared.Way.{Way};
+ghost use Rattle.frame.specs.Sealed.{fitsIn};
+ghost use Rattle.rules.specs.Box.{noDesk};
+ghost use Rattle.requests.specs.Request.{fieldsHold, bodyOf, dataFor, inRange};
+ghost use Rattle.maker.specs.Maker.{Requested};
+
+// How many octets of data a request has.
+fn size_of(ask: Ask, bytes: [u8; 14]) -> usize
+    ensures { λ r. ⌜ r ≡ length (bodyOf ask bytes) ⌝ }
+{
+    match ask {
+        Ask::Baud(n) => 1,
+        Ask::Reset => 0,
+        Ask::SystemReset => 0,
+        Ask::ReadBlock(adr) => 1,
+        Ask::WriteBlock(adr) => 15,
+        Ask::SaveBlocks(adr) => 1,
+        Ask::RestoreBlocks(adr) => 1,
+        Ask::SetTimer(h, m, ms) => 4,
+        Ask::SendTimer => 0,
+        Ask::Login(password) => 4,
+        Ask::ReadRecords(k) => 2,
+        Ask::SendTable => 0,
+        Ask::RemoveRecords => 0,
+        Ask::ClearRecords => 0,
+    }
+}
+
+// Writes one octet.
+fn put_octet(out: &mut [u8], n: u64)
+    requires { ⌜ (n < 256) × (1 ≤ length (now out)) ⌝ }
+    ensures { λ _. ⌜ now (out .exit) ≡ put 0 (n ∷ []) (now (out .entry)) ⌝ }
+{
+    out[0] = n as u8;
+}
+
+// Writes CFG-ADR and the bytes of a block.
+fn put_block(out: &mut [u8], adr: u64, bytes: [u8; 14])
+    requires { ⌜ (adr < 256) × (15 ≤ length (now out)) ⌝ }
+    ensures { λ _. ⌜ now (out .exit) ≡ put 0 (adr ∷ bytes) (now (out .entry)) ⌝ }
+{
+    out[0] = adr as u8;
+    octets::copy_to(out, 1, &bytes);
+}
+
+// Writes hour, minute and milliseconds.
+fn put_timer(out: &mut [u8], h: u64, m: u64, ms: u64)
+    requires { ⌜ (h < 256) × (m < 256) × (ms < 65536) × (4 ≤ length (now out)) ⌝ }
+    ensures { λ _. ⌜ now (out .exit) ≡ put 0 (h ∷ m ∷ octets 2 ms) (now (out .entry)) ⌝ }
+{
+    out[0] = h as u8;
+    out[1] = m as u8;
+    octets::put16(out, 2, ms as u16);
+}
+
+// The four octets of a password, most significant first.
+fn octets32(n: u64) -> [u8; 4]
+    ensures { λ r. ⌜ r ≡ octets 4 n ⌝ }
+{
+    [
+        (n / 16777216 % 256) as u8,
+        (n / 65536 % 256) as u8,
+        (n / 256 % 256) as u8,
+        (n % 256) as u8,
+    ]
+}
+
+// Writes a password.
+fn put_password(out: &mut [u8], n: u64)
+    requires { ⌜ 4 ≤ length (now out) ⌝ }
+    ensures { λ _. ⌜ now (out .exit) ≡ put 0 (octets 4 n) (now (out .entry)) ⌝ }
+{
+    let d = octets32(n);
+    octets::copy_to(out, 0, &d);
+}
+
+// Writes the data of a request.
+fn put_data(out: &mut [u8], ask: Ask, bytes: [u8; 14])
+    requires { ⌜ (fieldsHold ask ≡ true) × (length (bodyOf ask bytes) ≤ length (now out)) ⌝ }
+    ensures { λ _. ⌜ now (out .exit) ≡ put 0 (bodyOf ask bytes) (now (out .entry)) ⌝ }
+{
+    match ask {
+        Ask::Baud(n) => put_octet(out, n),
+        Ask::Reset => (),
+        Ask::SystemReset => (),
+        Ask::ReadBlock(adr) => put_octet(out, adr),
+        Ask::WriteBlock(adr) => put_block(out, adr, bytes),
+        Ask::SaveBlocks(adr) => put_octet(out, adr),
+        Ask::RestoreBlocks(adr) => put_octet(out, adr),
+        Ask::SetTimer(h, m, ms) => put_timer(out, h, m, ms),
+        Ask::SendTimer => (),
+        Ask::Login(password) => put_password(out, password),
+        Ask::ReadRecords(k) => octets::put16(out, 0, k as u16),
+        Ask::SendTable => (),
+        Ask::RemoveRecords => (),
+        Ask::ClearRecords => (),
+    }
+}
+
+// Makes the frame where it is known to fit.
+fn put_frame(q: Request, out: &mut [u8], len: usize) -> Written
+    requires { ⌜ (q .desk ≤ 7) × (inRange q ≡ true) × (len ≡ length (dataFor q)) × (fitsIn Way.Request (q .kind) len (length (now out)) ≡ true) ⌝ }
+    ensures { λ r. ⌜ Requested q (now (out .entry)) r (now (out .exit)) ⌝ }
+{
+    let kind = q.kind;
+    let ask = q.ask;
+    let bytes = q.bytes;
+    let at = kind.shape().lead + 2;
+    put_data(&mut out[at..], ask, bytes);
+    match frame::seal_request(out, kind, q.desk as u8, control_of(ask), len) {
+        Sealed::Octets(n) => Written::Octets(n),
+        Sealed::Not => Written::Refused(Refusal::NoRoom),
+    }
+}
+
+// Makes a request: the frame stands at the start of the output, and the octets after it stay.
+pub fn make(q: Request, out: &mut [u8]) -> Written
+    ensures { λ r. ⌜ Requested q (now (out .entry)) r (now (out .exit)) ⌝ }
+{
+    if q.desk > 7 {
+        return Written::Refused(Refusal::NoDesk);
+    }
+    if !in_range(q) {
+        return Written::Refused(Refusal::OutOfRange);
+    }
+    let kind = q.kind;
+    let ask = q.ask;
+    let bytes = q.bytes;
+    let len = size_of(ask, bytes);
+    if !frame::has_room(Way::Request, kind, len, out.len()) {
+        return Written::Refused(Refusal::NoRoom);
+    }
+    put_frame(q, out, len)
+}

@@ -1,0 +1,55 @@
+-- What the reader owes its reader. Assumes nothing.
+use Prim.Native.Nat.{ℕ, _+_, _-_, _*_}
+use mathlib.Core.Bool.{Bool, true, false, not, _&&_, _||_}
+use mathlib.Core.List.{List, [], _∷_, _++_}
+use mathlib.Core.Option.{Option, none, some}
+use lib.ListN.{length, getD}
+use lib.Dec.{eqb}
+use Rattle.octets.specs.Tests.{first}
+use Rattle.octets.specs.Numbers.{u16At}
+use Rattle.frame.specs.declared.Kind.{Kind}
+use Rattle.frame.specs.declared.Kind.the-variants.{Standard, Advanced}
+use Rattle.frame.specs.declared.Way.the-variants.{Reply}
+use Rattle.frame.specs.declared.Frame.{Frame}
+use Rattle.frame.specs.declared.Refusal.{Refusal}
+use Rattle.frame.specs.declared.Refusal.the-variants.{NotTheReply}
+use Rattle.frame.specs.Judged.{faults, partsOf, dataOf}
+use Rattle.table.specs.Entries.{recordWidth}
+use Rattle.requests.specs.declared.Request.{Request}
+use Rattle.reader.specs.declared.Told.{Told}
+use Rattle.reader.specs.declared.Reading.{Reading}
+use Rattle.reader.specs.declared.Reading.the-variants.{Sound, Refused}
+use Rattle.requests.specs.Request.{controlOf}
+use Rattle.reader.specs.Possible.{possible}
+
+abbrev pub sameKind : Kind → Kind → Bool
+sameKind Standard Standard = true
+sameKind Standard Advanced = false
+sameKind Advanced Standard = false
+sameKind Advanced Advanced = true
+
+-- the status stands before the data
+unfoldable pub toldOf : Frame → List ℕ → Told
+toldOf f s = record { status = getD s (f .start - 1) 0; start = f .start; len = f .len }
+
+-- the data of a reply to 0x22, where there are any, begin with a count that their length allows
+unfoldable pub countRight : ℕ → List ℕ → Bool
+countRight control sent = not (eqb control 0x22) || eqb (length sent) 0 || eqb (length sent) (2 + u16At 0 sent * recordWidth)
+
+-- kind, address and control byte are the request's; a box can answer it so; the record count is right
+unfoldable pub answersTo : Request → Frame → List ℕ → Bool
+answersTo q f s =
+    sameKind (f .kind) (q .kind) && eqb (f .address) (q .desk) && eqb (f .control) (controlOf (q .ask))
+    && possible q (toldOf f s .status) (f .len) && countRight (f .control) (dataOf f s)
+
+-- the reader can meet 3, 4, 8, in rising number
+unfoldable pub readerRefusals : Request → List ℕ → List (Refusal × Bool)
+readerRefusals q s = faults Reply s ++ ((NotTheReply, not (answersTo q (partsOf Reply s) s)) ∷ [])
+
+abbrev pub reading : Option Refusal → Told → Reading
+reading none t = Sound t
+reading (some r) t = Refused r
+
+-- status, and where the data lie
+unfoldable pub readAs : Request → List ℕ → Reading
+readAs q s = reading (first (readerRefusals q s)) (toldOf (partsOf Reply s) s)

@@ -1,0 +1,38 @@
+-- `requests::range::fields_hold` meets its contract. Assumes nothing.
+use mathlib.Core.Path.{sym, ap, _∙_}
+use Rattle.requests.specs.Request.{fieldsHold}
+use borrow.Author.Needs.{needs}
+use Rattle.requests.proofs.range.fields_hold.Statement.{statement}
+use Rattle.requests.proofs.range.fields_hold.Tie as tie
+
+returns : tie.Need-returns
+returns c = cc
+
+returns-4 : tie.Need-returns-4
+returns-4 c = cc
+
+returns-5 : tie.Need-returns-5
+returns-5 c = cc
+
+returns-6 : tie.Need-returns-6
+returns-6 c = cc
+
+returns-7 : tie.Need-returns-7
+returns-7 c = cc
+
+returns-8 : tie.Need-returns-8
+returns-8 c = c .timer-holds .ensures ∙ sym (ap fieldsHold (c .before .before .ask6 .given .1))
+
+returns-10 : tie.Need-returns-10
+returns-10 c = cc
+
+returns-11 : tie.Need-returns-11
+returns-11 c = cc
+
+pub fields-hold-spec : {M : Type 1} → statement M
+fields-hold-spec =
+    tie.close
+    (tie.spec (λ c. search needs) (λ c. search needs) (λ c. search needs) (λ c. search needs) (λ c. search needs) (λ c. search needs)
+    (λ c. search needs) (λ c. search needs) (λ c κs. search needs) (λ c. search needs) (λ c. search needs) (λ c. search needs)
+    (λ c. search needs) (λ c. search needs) (λ c. search needs) returns (λ c. search needs) (λ c. search needs) returns-4 returns-5
+    returns-6 returns-7 returns-8 (λ c. search needs) returns-10 returns-11 (λ c. search needs) (λ c. search needs) (λ c. search needs))

@@ -1,0 +1,41 @@
+-- What is printed: how long it is, and a line of hex digits in the output. Assumes nothing.
+use Prim.Native.Nat.{ℕ, _+_, _*_, _≤_}
+use mathlib.Core.Path.{_≡_, sym, ap, _∙_}
+use mathlib.Core.List.{List, [], _∷_}
+use native.Mathlib.Nat.{zero-add}
+use native.Mathlib.Omega.{arith}
+use lib.ListN.{length, set, take, length-append, length-take}
+use Rattle.octets.specs.Parts.{put}
+use Rattle.octets.proofs.Puts.{put-append, put-one}
+use Rattle.rules.specs.Line.{hex}
+use Rattle.hex.proofs.Digits.{hex-length}
+use Rattle.rules.specs.declared.Seen.the-variants.{Ignored, Lost, Recorded}
+use Rattle.depot.specs.declared.Answer.{Answer}
+use Rattle.depot.specs.declared.Answer.the-variants.{Refused, Reply, Sighted, Done}
+use Rattle.depot.proofs.Short.{Short}
+use Rattle.text.specs.Listing.{refusedLine, hexLine, seenLine, okLine, printed}
+use Rattle.text.specs.Reading.{longestLine}
+
+pub hex-line-length : (s : List ℕ) → length (hexLine s) ≡ 2 * length s + 1
+unfolding hexLine
+hex-line-length s = omega (arith, length-append (hex s) (0x0A ∷ []), hex-length s)
+
+pub hex-line-put : (s out out′ : List ℕ) → out′ ≡ put 0 (hex s) out → set out′ (2 * length s) 0x0A ≡ put 0 (hexLine s) out
+unfolding hexLine
+hex-line-put s out out′ p =
+    ap (λ (l : List ℕ). set l (2 * length s) 0x0A) p
+    ∙ sym (put-append 0 (hex s) (0x0A ∷ []) out ∙ put-one (0 + length (hex s)) 0x0A (put 0 (hex s) out) ∙ rw (zero-add, hex-length))
+
+-- every line has room in as many octets as the longest
+pub printed-short : (a : Answer) (reply : List ℕ) → Short a → length (printed a reply) ≤ longestLine
+unfolding printed refusedLine seenLine okLine
+printed-short (Refused r) reply h = omega arith
+printed-short (Reply n) reply h = omega (arith, hex-line-length (take n reply), length-take n reply)
+printed-short (Sighted Ignored) reply h = omega arith
+printed-short (Sighted Lost) reply h = omega arith
+printed-short (Sighted Recorded) reply h = omega arith
+printed-short Done reply h = omega arith
+
+-- so it has room wherever the longest has
+pub room-for : (a : Answer) (reply out : List ℕ) → Short a → longestLine ≤ length out → (10 ≤ length out) × (length (printed a reply) ≤ length out)
+room-for a reply out h l = (omega arith, omega (arith, printed-short a reply h))

@@ -1,0 +1,81 @@
+-- What was sent is told typed: a block, the timer, the sizes, a record, and the sighting that the record is of. Assumes nothing.
+use Prim.Native.Nat.{ℕ, _+_, _*_, _^_, _<_}
+use mathlib.Core.Path.{_≡_, refl, sym, ap, _∙_}
+use mathlib.Core.Bool.{true}
+use mathlib.Core.List.{List, []}
+use native.Mathlib.Nat.{mul-comm}
+use native.Mathlib.Omega.{arith}
+use lib.ListN.{length, getD, take}
+use lib.Seq.{drop-append-add}
+use lib.Dec.{lit<}
+use borrow.Author.Tests.{eq-eqb, lt-ltb}
+use Rattle.octets.specs.Parts.{part, rows, concat}
+use Rattle.octets.specs.Numbers.{number, octets, u16At}
+use Rattle.octets.proofs.Numbers.{number-octets}
+use Rattle.octets.proofs.Puts.{put-whole}
+use Rattle.octets.proofs.Rows.{Wide, rows-at, rows-concat, length-concat}
+use Rattle.timer.specs.declared.Timer.{Timer}
+use Rattle.timer.specs.Clock.{timerLegal, timerOctets, timerFrom}
+use Rattle.timer.proofs.Ranges.{timer-facts}
+use Rattle.timer.proofs.ReadBack.{timer-length, timer-back}
+use Rattle.frame.specs.declared.Kind.{Kind}
+use Rattle.table.specs.Entries.{recordWidth, share}
+use Rattle.rules.specs.declared.Command.the-variants.{SendTable}
+use Rattle.rules.specs.Desk.{Desk}
+use Rattle.rules.specs.Records.{recordOf, counted}
+use Rattle.rules.specs.Command.{result, effect}
+use Rattle.rules.proofs.Facts.{TableLegal}
+use Rattle.typed.specs.declared.TimerTold.{TimerTold}
+use Rattle.typed.specs.declared.SizesTold.{SizesTold}
+use Rattle.typed.specs.declared.RecordTold.{RecordTold}
+use Rattle.typed.specs.Typed.{blockTold, timerTold, sizesTold, sightingFrom, recordTold}
+use Rattle.rules.proofs.Counts.{records-back, counted-length}
+
+pub block-told : (bytes : List ℕ) → length bytes ≡ 14 → blockTold bytes ≡ record { there = true; bytes = bytes }
+unfolding blockTold
+block-told bytes e = rw (eq-eqb (length bytes) 14 e)
+
+ms-fits : (t : Timer) → timerLegal t ≡ true → t .ms < 65536
+ms-fits t e = omega (arith, timer-facts t e .ms)
+
+pub timer-told : (t : Timer) → timerLegal t ≡ true → timerTold (timerOctets t) ≡ TimerTold.Timer t
+unfolding timerTold
+timer-told t e = rw (timer-length t, timer-back t (ms-fits t e))
+
+-- what 0x31 sends
+pub sizes-told : (kind : Kind) (d : Desk) (body : List ℕ) → TableLegal (d .table)
+    → sizesTold (effect SendTable kind d body .sent) ≡ SizesTold.Sizes (record { size = share; start = d .table .start; len = length (d .table .held) })
+unfolding effect result sizesTold u16At part octets
+sizes-told kind d body p =
+    let start : number (octets 2 (d .table .start)) ≡ d .table .start = number-octets 2 (d .table .start) (omega (arith, p .start)) in
+    let len : number (octets 2 (length (d .table .held))) ≡ length (d .table .held) = number-octets 2 (length (d .table .held)) (omega (arith, p .few)) in
+    rw (number-octets 2 share (lit< tt), start, len)
+
+-- ---- 0x22
+
+module _ (rs : List (List ℕ)) (wide : Wide recordWidth rs) (i : ℕ) (h : i < length rs) where
+  row-is : part (recordWidth * i) recordWidth (concat rs) ≡ getD rs i []
+  row-is =
+      sym (rows-at (length rs) recordWidth i (concat rs) h)
+      ∙ ap (λ (s : List ℕ). getD (rows (length rs) recordWidth s) i []) (sym (put-whole (concat rs) (concat rs) refl))
+      ∙ ap (λ (es : List (List ℕ)). getD es i []) (rows-concat recordWidth rs (concat rs) wide (omega (arith, length-concat recordWidth rs wide)))
+
+  -- the count's two octets stand before it
+  record-is : part (2 + i * recordWidth) recordWidth (counted rs) ≡ getD rs i []
+  unfolding counted part octets
+  record-is =
+      ap (take recordWidth) (drop-append-add (octets 2 (length rs)) (concat rs) (i * recordWidth))
+      ∙ ap (λ (n : ℕ). part n recordWidth (concat rs)) (mul-comm i recordWidth)
+      ∙ row-is
+
+  pub record-told : recordTold (counted rs) i ≡ RecordTold.Record (sightingFrom (getD rs i []))
+  unfolding recordTold
+  record-told = rw (counted-length rs wide, records-back (length rs), lt-ltb i (length rs) h, record-is)
+
+pub sighting-back : (uid : ℕ) (t : Timer) (mask : ℕ) → uid < 2 ^ 64 → timerLegal t ≡ true
+    → sightingFrom (recordOf uid t mask) ≡ record { uid = uid; timer = t; mask = mask }
+unfolding sightingFrom recordOf part octets timerOctets
+sighting-back uid t mask h e =
+    let its : number (octets 8 uid) ≡ uid = number-octets 8 uid h in
+    let timer : timerFrom (timerOctets t) ≡ t = timer-back t (ms-fits t e) in
+    rw (its, timer)
