@@ -14,7 +14,7 @@ use Rattle.locks.specs.Locks.{locked, distinct, lookupFrom}
 use Rattle.locks.proofs.Lookups.{locked-cons}
 
 module _ (a : List Lock) (n : ℕ) (d : Lock) (within : n ≤ length a) where
-  next : (i : ℕ) → i < n → drop i (take n a) ≡ getD a i d ∷ drop (i + 1) (take n a)
+  pub next : (i : ℕ) → i < n → drop i (take n a) ≡ getD a i d ∷ drop (i + 1) (take n a)
   next i h =
       let l : length (take n a) ≡ n = length-take-le n a within in
       rw (add-one, drop-cons (take n a) i d (omega arith), getD-take n a i d h)

@@ -13,7 +13,7 @@ use second::model::Depot;
 use second::{place, store::load};
 use std::hint::black_box;
 use std::time::Instant;
-use stores::{empty, full, read_out, UID};
+use stores::{alike, empty, full, read_out, UID};
 
 const BATCHES: usize = 40;
 
@@ -129,6 +129,8 @@ fn main() {
         tick_row(&format!("tick, {state}"), store);
     }
     sighting_row("new tags where 64 locks stand", &read_out(), 1 << 40, 1);
+    frame_row("0x22 read 64 records, worst UIDs", &alike(), 0x22, &[0, 64]);
+    tick_row("tick, worst UIDs", &alike());
     mix_row("random events, from the start", &empty, 7, 0);
     mix_row("random events, after 200000", &empty, 7, 200_000);
     let fresh = time(&empty, 50, |s, _| _ = black_box(raw::fresh(s)));

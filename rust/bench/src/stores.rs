@@ -12,15 +12,25 @@ pub fn empty() -> Vec<u8> {
     store
 }
 
-/// 512 records and 512 locks: 64 of each at every desk, so that a new tag is lost.
-pub fn full() -> Vec<u8> {
+/// 512 records and 512 locks, 64 of each at every desk, of tags whose numbers lie so far apart.
+fn filled(step: u64) -> Vec<u8> {
     let mut store = empty();
     for desk in 0..8 {
         for index in 0..64 {
-            assert_eq!(raw::sighting(&mut store, desk, UID - 63 + index, 1), 18);
+            assert_eq!(raw::sighting(&mut store, desk, UID - step * (63 - index), 1), 18);
         }
     }
     store
+}
+
+/// Tags of one series, as they are bought. A new tag is lost.
+pub fn full() -> Vec<u8> {
+    filled(1)
+}
+
+/// Tags that share one mark of the library's soundness test: the worst that a stranger can write.
+pub fn alike() -> Vec<u8> {
+    filled(251)
 }
 
 /// The full store after desk 7 sent its records and removed them: its 64 locks stand, so that each new tag is recorded and the
