@@ -24,7 +24,7 @@ use Rattle.rules.proofs.Facts.{TableLegal, DeskLegal}
 use Rattle.rules.proofs.Tables.{empty-legal, short-legal}
 use Rattle.rules.proofs.Legality.{none-legal, timer-legal, locks-legal, table-legal, restarted-legal}
 use Rattle.store.specs.Layout.{rowWidth, rowAt, rowOf}
-use Rattle.store.specs.Rows.{field, fields}
+use Rattle.store.specs.Rows.{field, fields, dueAt, startAt}
 use Rattle.store.specs.View.{deskOf, deskIn, inUse}
 use Rattle.store.specs.Sound.{sound}
 use Rattle.store.proofs.Changes.{sound-facts}
@@ -93,9 +93,9 @@ module _ (s : List ℕ) (e : sound s ≡ true) (d : ℕ) (h : d < desks) (o : Oc
       says-then d one two s s′ (removedFrom d k s′) a (removes s′ (a .still) d k two h there p)
 
   -- the table of which those due are gone
-  short-is : record { held = drop (getD row 456 0) held; overflow = false; due = 0; start = (getD row 457 0 + getD row 456 0) % 64 } ≡ shortTable (desk .table)
+  short-is : record { held = drop (getD row dueAt 0) held; overflow = false; due = 0; start = (getD row startAt 0 + getD row dueAt 0) % 64 } ≡ shortTable (desk .table)
   unfolding shortTable deskOf fields field upto
-  short-is = rw (number-at 456 row, number-at 457 row)
+  short-is = rw (number-at dueAt row, number-at startAt row)
 
   -- ---- the commands
 
@@ -108,14 +108,14 @@ module _ (s : List ℕ) (e : sound s ≡ true) (d : ℕ) (h : d < desks) (o : Oc
         }
 
     -- those due go
-    pub removed-done : let due = getD row 456 0 in let start = (getD row 457 0 + due) % 64 in
+    pub removed-done : let due = getD row dueAt 0 in let start = (getD row startAt 0 + due) % 64 in
         Quiet RemoveRecords d body r s (removedFrom d due (put (rowAt d s) (closedRow start row) s))
     unfolding ownTests effect done first
     removed-done =
-        let due = getD row 456 0 in
-        let start = (getD row 457 0 + due) % 64 in
+        let due = getD row dueAt 0 in
+        let start = (getD row startAt 0 + due) % 64 in
         said RemoveRecords (λ (x : Desk). withTable (shortTable (x .table)) x) _ (λ kind x b. (refl, refl))
-        (then-removes (closedRow start row) due _ _ (closed-length start row ∙ row-size s e d h) (closing (getD row 457 0 + due))
+        (then-removes (closedRow start row) due _ _ (closed-length start row ∙ row-size s e d h) (closing (getD row startAt 0 + due))
         (closed-means row (row-size s e d h) held start (drop due held) ∙ ap (λ (t : Table). withTable t desk) short-is)
         (table-legal desk legal _ (short-legal (desk .table) (legal .table))))
 

@@ -14,7 +14,7 @@ use Rattle.store.specs.Sound.{sound}
 use Rattle.store.proofs.Changes.{sound-facts}
 use Rattle.store.proofs.Anew.{row-inside as inside}
 use Rattle.octets.proofs.Numbers.{number-at}
-use Rattle.store.specs.Rows.{field}
+use Rattle.store.specs.Rows.{field, countAt}
 use Rattle.desk.proofs.Doing.{row-right}
 
 pub sound-size : (s : List ℕ) → sound s ≡ true → length s ≡ storeSize
@@ -54,6 +54,6 @@ module _ (s : List ℕ) (e : sound s ≡ true) (d : ℕ) (h : d < desks) where
     row-back f ys q l = lent-done f ys (ap length (q ∙ ap f lent-row) ∙ l ∙ sym lent-size) q
 
   -- at most 64 locks
-  pub few-locks : getD (rowOf d s) 458 0 ≤ 64
+  pub few-locks : getD (rowOf d s) countAt 0 ≤ 64
   unfolding field
   few-locks = rw number-at at (row-right s e d h .count)

@@ -23,7 +23,7 @@ use Rattle.rules.specs.Control.{row, commands, known}
 use Rattle.rules.specs.Command.{Result, result, tests, unless, obey, answered}
 use Rattle.rules.proofs.Legality.{row-found}
 use Rattle.store.specs.Layout.{rowWidth, rowAt, rowOf}
-use Rattle.store.specs.Rows.{field, fields}
+use Rattle.store.specs.Rows.{field, fields, loginAt}
 use Rattle.store.specs.View.{deskOf}
 use Rattle.store.specs.Sound.{sound}
 use Rattle.desk.specs.declared.Reply.{Reply}
@@ -31,11 +31,11 @@ use Rattle.desk.specs.Obeyed.{kept, ruled, Done, Quiet, dataAt, Obeyed, 
 use Rattle.desk.proofs.Doing.{kept-is, unchanged}
 
 -- whether a desk is logged in is one octet of its row
-pub logged-in : (s : List ℕ) → sound s ≡ true → (d : ℕ) → d < desks → kept d s .loggedIn ≡ eqb (getD s (rowAt d s + 450) 0) 1
+pub logged-in : (s : List ℕ) → sound s ≡ true → (d : ℕ) → d < desks → kept d s .loggedIn ≡ eqb (getD s (rowAt d s + loginAt) 0) 1
 unfolding deskOf fields upto field
 logged-in s e d h =
     ap (λ (x : Desk). x .loggedIn) (kept-is s e d h)
-    ∙ ap (λ (n : ℕ). eqb n 1) (number-at 450 (rowOf d s) ∙ part-at (rowAt d s) rowWidth s 450 (lit< tt))
+    ∙ ap (λ (n : ℕ). eqb n 1) (number-at loginAt (rowOf d s) ∙ part-at (rowAt d s) rowWidth s loginAt (lit< tt))
 
 -- ---- a reply without data
 

@@ -23,7 +23,7 @@ use Rattle.rules.proofs.Facts.{DeskLegal}
 use Rattle.rules.proofs.Tables.{sent-legal}
 use Rattle.rules.proofs.Legality.{table-legal}
 use Rattle.store.specs.Layout.{rowAt, rowOf}
-use Rattle.store.specs.Rows.{field, fields}
+use Rattle.store.specs.Rows.{field, fields, dueAt, markAt, startAt}
 use Rattle.store.specs.View.{deskOf, deskIn, inUse}
 use Rattle.store.specs.Sound.{sound}
 use Rattle.desk.specs.declared.Reply.{Reply}
@@ -54,15 +54,15 @@ module _ (s : List ℕ) (e : sound s ≡ true) (d : ℕ) (h : d < desks) (kind :
 
   -- ---- 0x31
 
-  start-is : kept d s .table .start ≡ getD row 457 0
+  start-is : kept d s .table .start ≡ getD row startAt 0
   unfolding deskOf fields field upto
-  start-is = ap (λ (x : Desk). x .table .start) (kept-is s e d h) ∙ number-at 457 row
+  start-is = ap (λ (x : Desk). x .table .start) (kept-is s e d h) ∙ number-at startAt row
 
   held-is : kept d s .table .held ≡ held
   unfolding deskOf
   held-is = ap (λ (x : Desk). x .table .held) (kept-is s e d h)
 
-  pub table-told : (to start n : ℕ) (one two three : List ℕ) → to ≡ dataAt kind → start ≡ getD row 457 0 → n ≡ length held → r ≡ record { status = 0; len = 6 }
+  pub table-told : (to start n : ℕ) (one two three : List ℕ) → to ≡ dataAt kind → start ≡ getD row startAt 0 → n ≡ length held → r ≡ record { status = 0; len = 6 }
       → one ≡ put to (octets 2 64) out → two ≡ put (to + 2) (octets 2 start) one → three ≡ put (to + 4) (octets 2 n) two
       → Obeyed d kind (ruled SendTable kind (kept d s) body) r s s out three
   unfolding ownTests first effect octets
@@ -94,19 +94,19 @@ module _ (s : List ℕ) (e : sound s ≡ true) (d : ℕ) (h : d < desks) (kind :
           ∙ ruled-done ReadRecords kind desk body (rw (ne-eqb (u16At 0 body) 0 a, ne-eqb (length held) 0 b))
           ∙ rw (← sent-is)
 
-      status-is : cond (eqb (getD row 455 0) 1) 0x93 (cond (ltb n wanted) 0x94 0x00) ≡ readStatus kind (u16At 0 body) (desk .table)
+      status-is : cond (eqb (getD row markAt 0) 1) 0x93 (cond (ltb n wanted) 0x94 0x00) ≡ readStatus kind (u16At 0 body) (desk .table)
       unfolding readStatus goes deskOf fields field upto
-      status-is = rw (number-at 455 row, g, w)
+      status-is = rw (number-at markAt row, g, w)
 
       says : Says d (withTable (sentTable n (desk .table)) desk) s (put (rowAt d s) (dueRow n row) s)
       unfolding dueRow
       says =
           let legal : DeskLegal desk = rw (kept-is s e d h) at (kept-legal s e d h o) in
           let after : DeskLegal (withTable (sentTable n (desk .table)) desk) = rw sent-is (table-legal desk legal _ (sent-legal kind (u16At 0 body) (desk .table) (legal .table))) in
-          row-says s e d h (dueRow n row) _ (put-length 456 (n ∷ []) row ∙ row-size s e d h) (due-means row (row-size s e d h) held n) after (due-flags row (row-size s e d h) (row-flags s e d h) n)
+          row-says s e d h (dueRow n row) _ (put-length dueAt (n ∷ []) row ∙ row-size s e d h) (due-means row (row-size s e d h) held n) after (due-flags row (row-size s e d h) (row-flags s e d h) n)
 
       pub records-told : (to : ℕ) (s′ out′ : List ℕ) → to ≡ dataAt kind → r ≡ record { status = status; len = 2 + recordWidth * n }
-          → status ≡ cond (eqb (getD row 455 0) 1) 0x93 (cond (ltb n wanted) 0x94 0x00)
+          → status ≡ cond (eqb (getD row markAt 0) 1) 0x93 (cond (ltb n wanted) 0x94 0x00)
           → s′ ≡ put (rowAt d s) (dueRow n row) s → out′ ≡ put to (counted (take n held)) out
           → Obeyed d kind (ruled ReadRecords kind (kept d s) body) r s s′ out out′
       unfolding result

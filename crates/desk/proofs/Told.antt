@@ -23,7 +23,7 @@ use Rattle.rules.specs.Command.{passwordIs}
 use Rattle.rules.proofs.Memories.{length-block}
 use Rattle.rules.proofs.Legality.{memory-of}
 use Rattle.store.specs.Layout.{rowWidth, rowAt, rowOf}
-use Rattle.store.specs.Rows.{field, fields}
+use Rattle.store.specs.Rows.{field, fields, timerAt}
 use Rattle.store.specs.View.{deskOf}
 use Rattle.store.specs.Sound.{sound}
 use Rattle.desk.specs.Obeyed.{kept}
@@ -69,15 +69,15 @@ module _ (s : List ℕ) (e : sound s ≡ true) (d : ℕ) (h : d < desks) where
     memory-told false = rw a (lent-part (rowAt d s) 224 s ∙ ap (λ (i : ℕ). part i 224 s) (sym (add-zero (rowAt d s))) ∙ ram-told)
 
     -- the four octets of the timer
-    pub timer-told : Octets s → take (at + 451 + 4 - (at + 451)) (drop (at + 451) s) ≡ timerOctets (kept d s .timer)
+    pub timer-told : Octets s → take (at + timerAt + 4 - (at + timerAt)) (drop (at + timerAt) s) ≡ timerOctets (kept d s .timer)
     unfolding deskOf fields field upto
     timer-told o =
-        let here : List ℕ = part (rowAt d s + 451) 4 s in
-        let four : length here ≡ 4 = part-length (rowAt d s + 451) 4 s (omega (arith, row-inside s e d h)) in
+        let here : List ℕ = part (rowAt d s + timerAt) 4 s in
+        let four : length here ≡ 4 = part-length (rowAt d s + timerAt) 4 s (omega (arith, row-inside s e d h)) in
         rw a
-        (lent-part (rowAt d s + 451) 4 s
-        ∙ sym (timer-forth here four (octets-part (rowAt d s + 451) 4 s o))
-        ∙ ap (λ (p : List ℕ). timerOctets (timerFrom p)) (in-row 451 4 (lit≤ tt))
+        (lent-part (rowAt d s + timerAt) 4 s
+        ∙ sym (timer-forth here four (octets-part (rowAt d s + timerAt) 4 s o))
+        ∙ ap (λ (p : List ℕ). timerOctets (timerFrom p)) (in-row timerAt 4 (lit≤ tt))
         ∙ sym (ap (λ (x : Desk). timerOctets (x .timer)) (kept-is s e d h)))
 
     -- whether the four octets are the password

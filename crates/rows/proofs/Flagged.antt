@@ -15,7 +15,7 @@ use Rattle.locks.specs.declared.Lock.{Lock}
 use Rattle.locks.specs.Locks.{locksOctets}
 use Rattle.rules.specs.Config.{defaults}
 use Rattle.store.specs.Layout.{rowWidth}
-use Rattle.store.specs.Rows.{field}
+use Rattle.store.specs.Rows.{field, countAt, dueAt, locksAt, loginAt, markAt, startAt, timerAt, validAt}
 use Rattle.rows.specs.Row.{one, loginRow, markedRow, dueRow, closedRow, timerRow, writtenRow, midnightRow, savedRow, allSavedRow, unlockedRow, locksRow, loadedRow, validRow, restartedRow, defaultRow, clearedRow, systemRow}
 use Rattle.rules.proofs.Memories.{defaults-legal}
 use Rattle.rows.proofs.Lengths.{login-length, closed-length, restarted-length}
@@ -26,16 +26,16 @@ pub record Flags (row : List ℕ) : Type 0 where
   pub mark : number (field row 5) ≤ 1
 
 -- a write elsewhere
-pub flags-away : (at : ℕ) (xs row : List ℕ) → Flags row → Apart at (length xs) 450 1 → Apart at (length xs) 455 1 → Flags (put at xs row)
+pub flags-away : (at : ℕ) (xs row : List ℕ) → Flags row → Apart at (length xs) loginAt 1 → Apart at (length xs) markAt 1 → Flags (put at xs row)
 unfolding field
 flags-away at xs row f a b =
-    record { login = rw (part-put-away 450 1 at xs row a) (f .login); mark = rw (part-put-away 455 1 at xs row b) (f .mark) }
+    record { login = rw (part-put-away loginAt 1 at xs row a) (f .login); mark = rw (part-put-away markAt 1 at xs row b) (f .mark) }
 
 -- before both, and behind both
-pub flags-before : (at : ℕ) (xs row : List ℕ) → Flags row → at + length xs ≤ 450 → Flags (put at xs row)
+pub flags-before : (at : ℕ) (xs row : List ℕ) → Flags row → at + length xs ≤ loginAt → Flags (put at xs row)
 flags-before at xs row f h = flags-away at xs row f (inl h) (inl (omega arith))
 
-pub flags-behind : (at : ℕ) (xs row : List ℕ) → Flags row → 456 ≤ at → Flags (put at xs row)
+pub flags-behind : (at : ℕ) (xs row : List ℕ) → Flags row → dueAt ≤ at → Flags (put at xs row)
 flags-behind at xs row f h = flags-away at xs row f (inr (omega arith)) (inr h)
 
 one-octet : (at x : ℕ) (row : List ℕ) → at < length row → number (part at 1 (put at (x ∷ []) row)) ≡ x
@@ -46,20 +46,20 @@ module _ (row : List ℕ) (l : length row ≡ rowWidth) (f : Flags row) where
   unfolding loginRow field
   login-flags b =
       record {
-        login = rw (one-octet 450 (cond b 1 0) row (omega arith)) (small b);
-        mark = rw (part-put-away 455 1 450 (cond b 1 0 ∷ []) row (inl (lit≤ tt))) (f .mark);
+        login = rw (one-octet loginAt (cond b 1 0) row (omega arith)) (small b);
+        mark = rw (part-put-away markAt 1 loginAt (cond b 1 0 ∷ []) row (inl (lit≤ tt))) (f .mark);
       }
     where
       small : (c : Bool) → cond c 1 0 ≤ 1
       small true = lit≤ tt
       small false = lit≤ tt
 
-  pub mark-flags : (x : ℕ) → x ≤ 1 → Flags (one 455 x row)
+  pub mark-flags : (x : ℕ) → x ≤ 1 → Flags (one markAt x row)
   unfolding field
   mark-flags x h =
       record {
-        login = rw (part-put-away 450 1 455 (x ∷ []) row (inr (lit≤ tt))) (f .login);
-        mark = rw (one-octet 455 x row (omega arith)) h;
+        login = rw (part-put-away loginAt 1 markAt (x ∷ []) row (inr (lit≤ tt))) (f .login);
+        mark = rw (one-octet markAt x row (omega arith)) h;
       }
 
   pub marked-flags : Flags (markedRow row)
@@ -68,15 +68,15 @@ module _ (row : List ℕ) (l : length row ≡ rowWidth) (f : Flags row) where
 
   pub due-flags : (n : ℕ) → Flags (dueRow n row)
   unfolding dueRow
-  due-flags n = flags-behind 456 (n ∷ []) row f (lit≤ tt)
+  due-flags n = flags-behind dueAt (n ∷ []) row f (lit≤ tt)
 
   pub closed-flags : (start : ℕ) → Flags (closedRow start row)
   unfolding closedRow dueRow
-  closed-flags start = flags-behind 457 (start ∷ []) _ (flags-behind 456 (0 ∷ []) _ (mark-flags 0 (lit≤ tt)) (lit≤ tt)) (lit≤ tt)
+  closed-flags start = flags-behind startAt (start ∷ []) _ (flags-behind dueAt (0 ∷ []) _ (mark-flags 0 (lit≤ tt)) (lit≤ tt)) (lit≤ tt)
 
   pub timer-flags : (body : List ℕ) → length body ≡ 4 → Flags (timerRow body row)
   unfolding timerRow
-  timer-flags body h = flags-away 451 body row f (inr (lit≤ tt)) (inl (omega arith))
+  timer-flags body h = flags-away timerAt body row f (inr (lit≤ tt)) (inl (omega arith))
 
   pub written-flags : (eeprom : Bool) (k : ℕ) (bytes : List ℕ) → k < 16 → length bytes ≡ 14 → Flags (writtenRow eeprom k bytes row)
   unfolding writtenRow
@@ -85,10 +85,10 @@ module _ (row : List ℕ) (l : length row ≡ rowWidth) (f : Flags row) where
 
   pub unlocked-flags : Flags (unlockedRow row)
   unfolding unlockedRow
-  unlocked-flags = flags-behind 458 (0 ∷ []) row f (lit≤ tt)
+  unlocked-flags = flags-behind countAt (0 ∷ []) row f (lit≤ tt)
 
   pub locks-flags : (ls : List Lock) → Flags (locksRow ls row)
-  locks-flags ls = flags-behind 458 (length ls ∷ []) _ (flags-behind 459 (locksOctets ls) row f (lit≤ tt)) (lit≤ tt)
+  locks-flags ls = flags-behind countAt (length ls ∷ []) _ (flags-behind locksAt (locksOctets ls) row f (lit≤ tt)) (lit≤ tt)
 
   pub saved-flags : (k : ℕ) → k < 16 → Flags (savedRow k row)
   unfolding savedRow
@@ -105,7 +105,7 @@ module _ (row : List ℕ) (l : length row ≡ rowWidth) (f : Flags row) where
 
   pub cleared-flags : Flags (clearedRow row)
   unfolding clearedRow unlockedRow
-  cleared-flags = flags-behind 458 (0 ∷ []) (closedRow 0 row) (closed-flags 0) (lit≤ tt)
+  cleared-flags = flags-behind countAt (0 ∷ []) (closedRow 0 row) (closed-flags 0) (lit≤ tt)
 
   loaded-flags : Flags (loadedRow row)
   unfolding loadedRow
@@ -120,11 +120,11 @@ unfolding restartedRow validRow
 restarted-flags row l f =
     let a = loadedRow row in
     let la : length a ≡ rowWidth = loaded-length row ∙ l in
-    let b = put 448 (part 392 2 a) a in
-    let lb : length b ≡ rowWidth = put-length 448 (part 392 2 a) a ∙ la in
+    let b = put validAt (part 392 2 a) a in
+    let lb : length b ≡ rowWidth = put-length validAt (part 392 2 a) a ∙ la in
     let c = loginRow false b in
     let lc : length c ≡ rowWidth = login-length false b ∙ lb in
-    let fb : Flags b = flags-before 448 (part 392 2 a) a (loaded-flags row l f) (omega (arith, part-length 392 2 a (omega arith))) in
+    let fb : Flags b = flags-before validAt (part 392 2 a) a (loaded-flags row l f) (omega (arith, part-length 392 2 a (omega arith))) in
     unlocked-flags c lc (login-flags b lb fb false)
 
 pub system-flags : (row : List ℕ) → length row ≡ rowWidth → Flags row → Flags (systemRow row)

@@ -7,15 +7,16 @@ use lib.ListN.{length, replicate}
 use Rattle.octets.specs.Parts.{part}
 use Rattle.octets.proofs.Puts.{put-length}
 use Rattle.rules.specs.Config.{defaults}
+use Rattle.store.specs.Rows.{countAt, loginAt, timerAt}
 use Rattle.rows.specs.Row.{memoryAt, loginRow, dueRow, closedRow, timerRow, midnightRow, writtenRow, savedRow, allSavedRow, unlockedRow, loadedRow, validRow, restartedRow, defaultRow, clearedRow, systemRow}
 
 pub login-length : (b : Bool) (row : List ℕ) → length (loginRow b row) ≡ length row
 unfolding loginRow
-login-length b row = put-length 450 (cond b 1 0 ∷ []) row
+login-length b row = put-length loginAt (cond b 1 0 ∷ []) row
 
 pub timer-length : (body row : List ℕ) → length (timerRow body row) ≡ length row
 unfolding timerRow
-timer-length body row = put-length 451 body row
+timer-length body row = put-length timerAt body row
 
 pub written-length : (eeprom : Bool) (k : ℕ) (bytes row : List ℕ) → length (writtenRow eeprom k bytes row) ≡ length row
 unfolding writtenRow
@@ -35,7 +36,7 @@ default-length eeprom row = put-length (memoryAt eeprom) defaults row
 
 pub unlocked-length : (row : List ℕ) → length (unlockedRow row) ≡ length row
 unfolding unlockedRow
-unlocked-length row = put-length 458 (0 ∷ []) row
+unlocked-length row = put-length countAt (0 ∷ []) row
 
 pub closed-length : (start : ℕ) (row : List ℕ) → length (closedRow start row) ≡ length row
 unfolding closedRow dueRow

@@ -27,7 +27,7 @@ use Rattle.rules.specs.Records.{marked, withRecord, sentTable}
 use Rattle.rules.specs.Sighting.{ticked}
 use Rattle.rules.proofs.Memories.{defaults-legal}
 use Rattle.store.specs.Layout.{rowWidth}
-use Rattle.store.specs.Rows.{fieldAt, fieldSize, field, fields}
+use Rattle.store.specs.Rows.{fieldAt, fieldSize, field, fields, countAt, dueAt, locksAt, loginAt, markAt, timerAt, validAt}
 use Rattle.store.specs.View.{deskOf, deskIn}
 use Rattle.store.proofs.Fields.{fields-into, fields-over, field-length}
 use Rattle.rows.specs.Row.{loginRow, markedRow, dueRow, closedRow, timerRow, midnightRow, writtenRow, savedRow, allSavedRow, unlockedRow, locksOf, locksRow, lockedRow, sweptRow, steppedRow, tickedRow, loadedRow, validRow, restartedRow, defaultRow, clearedRow, systemRow}
@@ -82,7 +82,7 @@ module _ (row : List ℕ) (size : length row ≡ rowWidth) (rs : List (List ℕ)
   pub stepped-means : deskIn (steppedRow row) rs ≡ withTimer (stepOf (deskIn row rs .timer)) (deskIn row rs)
   unfolding steppedRow deskOf fields field upto
   stepped-means =
-      let t : Timer = timerFrom (part 451 4 row) in
+      let t : Timer = timerFrom (part timerAt 4 row) in
       let legal : TimerLegal (stepOf t) = timer-facts (stepOf t) (step-legal t) in
       timer-means (timerOctets (stepOf t)) (timer-length (stepOf t)) ∙ rw (timer-back (stepOf t) (omega arith))
 
@@ -134,11 +134,11 @@ module _ (row : List ℕ) (size : length row ≡ rowWidth) (rs : List (List ℕ)
       → deskIn (closedRow start row) rs′ ≡ withTable (record { held = rs′; overflow = false; due = 0; start = start }) (deskIn row rs)
   unfolding closedRow dueRow deskOf fields upto withTable
   closed-means start rs′ =
-      let one : List ℕ = put 455 (0 ∷ []) row in
-      let two : List ℕ = put 456 (0 ∷ []) one in
+      let one : List ℕ = put markAt (0 ∷ []) row in
+      let two : List ℕ = put dueAt (0 ∷ []) one in
       ap (λ (fs : List (List ℕ)). deskOf fs rs′)
-      (fields-over two (kept 456 (0 ∷ []) one (kept 455 (0 ∷ []) row size)) 7 (start ∷ []) (lit< tt) refl
-      ∙ ap (change 7 (λ _. start ∷ [])) (fields-over one (kept 455 (0 ∷ []) row size) 6 (0 ∷ []) (lit< tt) refl
+      (fields-over two (kept dueAt (0 ∷ []) one (kept markAt (0 ∷ []) row size)) 7 (start ∷ []) (lit< tt) refl
+      ∙ ap (change 7 (λ _. start ∷ [])) (fields-over one (kept markAt (0 ∷ []) row size) 6 (0 ∷ []) (lit< tt) refl
       ∙ ap (change 6 (λ _. 0 ∷ [])) (fields-over row size 5 (0 ∷ []) (lit< tt) refl)))
       ∙ rw (number-one 0, number-one start)
 
@@ -149,8 +149,8 @@ module _ (row : List ℕ) (size : length row ≡ rowWidth) (rs : List (List ℕ)
       let two : List ℕ = validRow one in
       let three : List ℕ = loginRow false two in
       let l : length one ≡ rowWidth = kept 0 (part 224 224 row) row size in
-      let m : length two ≡ rowWidth = kept 448 (part 392 2 one) one l in
-      unlocked-means three (kept 450 (0 ∷ []) two m) rs
+      let m : length two ≡ rowWidth = kept validAt (part 392 2 one) one l in
+      unlocked-means three (kept loginAt (0 ∷ []) two m) rs
       ∙ ap (withLocks []) (login-means two m rs false
       ∙ ap (withLogin false) (valid-means one l rs
       ∙ ap (λ (d : Desk). withValid (validOf (d .eeprom)) d) (loaded-means row size rs)))
@@ -179,30 +179,30 @@ module _ (row : List ℕ) (size : length row ≡ rowWidth) (rs : List (List ℕ)
   -- the locks of the row are those of its desk
   locks-of : locksOf row ≡ deskIn row rs .locks
   unfolding deskOf fields field upto
-  locks-of = ap (λ (n : ℕ). locksIn n (part 459 640 row)) (sym (number-at 458 row))
+  locks-of = ap (λ (n : ℕ). locksIn n (part locksAt 640 row)) (sym (number-at countAt row))
 
-  valid-of : u16At 448 row ≡ deskIn row rs .valid
+  valid-of : u16At validAt row ≡ deskIn row rs .valid
   unfolding deskOf fields field upto u16At
   valid-of = refl
 
   locks-mean : (ls : List Lock) → All LockFits ls → length ls ≤ 64 → deskIn (locksRow ls row) rs ≡ withLocks ls (deskIn row rs)
   unfolding deskOf fields upto withLocks
   locks-mean ls fit few =
-      let one : List ℕ = put 459 (locksOctets ls) row in
+      let one : List ℕ = put locksAt (locksOctets ls) row in
       let l : length (field row 9) ≡ 640 = field-length row size 9 (lit< tt) in
-      over one (kept 459 (locksOctets ls) row size) rs 8 (length ls ∷ []) (lit< tt) refl
+      over one (kept locksAt (locksOctets ls) row size) rs 8 (length ls ∷ []) (lit< tt) refl
       ∙ ap (λ (fs : List (List ℕ)). deskOf (change 8 (λ _. length ls ∷ []) fs) rs) (fields-into row size 9 0 (locksOctets ls) (lit< tt) (omega (arith, locks-octets-length ls)))
       ∙ rw (number-one, locks-put ls (field row 9) fit (omega arith))
 
-  module _ (octet : Octets row) (few : getD row 458 0 ≤ 64) where
+  module _ (octet : Octets row) (few : getD row countAt 0 ≤ 64) where
     fit : All LockFits (locksOf row)
-    fit = locks-in-fit (getD row 458 0) (part 459 640 row) (octets-part 459 640 row octet) (omega (arith, part-length 459 640 row (omega arith)))
+    fit = locks-in-fit (getD row countAt 0) (part locksAt 640 row) (octets-part locksAt 640 row octet) (omega (arith, part-length locksAt 640 row (omega arith)))
 
     pub locked-means : (uid : ℕ) → uid < 2 ^ 64 → deskIn (lockedRow uid row) rs ≡ withLocks (added uid (deskIn row rs .valid) (deskIn row rs .locks)) (deskIn row rs)
     unfolding lockedRow
     locked-means uid h =
-        let valid : ℕ = u16At 448 row in
-        let v : valid < 65536 = u16At-lt 448 row octet (omega arith) in
+        let valid : ℕ = u16At validAt row in
+        let v : valid < 65536 = u16At-lt validAt row octet (omega arith) in
         locks-mean (added uid valid (locksOf row)) (added-fit valid uid (locksOf row) (record { uid = h; left = v }) fit) (locked-few row few uid valid)
         ∙ rw (← valid-of, ← locks-of)
 
@@ -214,5 +214,5 @@ module _ (row : List ℕ) (size : length row ≡ rowWidth) (rs : List (List ℕ)
     unfolding tickedRow sweptRow ticked withLocks
     ticked-means =
         let ls : List Lock = sweptOf (locksOf row) in
-        stepped-means (sweptRow row) (kept 458 (length ls ∷ []) (put 459 (locksOctets ls) row) (kept 459 (locksOctets ls) row size)) rs
+        stepped-means (sweptRow row) (kept countAt (length ls ∷ []) (put locksAt (locksOctets ls) row) (kept locksAt (locksOctets ls) row size)) rs
         ∙ ap (λ (d : Desk). withTimer (stepOf (d .timer)) d) swept-means

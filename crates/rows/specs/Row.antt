@@ -1,5 +1,4 @@
--- What is done to the row of one desk, octet for octet: RAM 0, EEPROM 224, VALID-TIME in force 448, login 450, timer 451, mark 455,
--- removal due 456, TAB-START 457, how many locks 458, locks 459. Assumes nothing.
+-- What is done to the row of one desk, octet for octet. Assumes nothing.
 use Prim.Native.Nat.{ℕ, _+_, _*_}
 use mathlib.Core.Bool.{Bool, true, false, cond}
 use mathlib.Core.List.{List, [], _∷_}
@@ -8,6 +7,7 @@ use Rattle.octets.specs.Parts.{part, put}
 use Rattle.octets.specs.Numbers.{u16At}
 use Rattle.timer.specs.Clock.{stepOf, timerOctets, timerFrom}
 use Rattle.rules.specs.Config.{defaults}
+use Rattle.store.specs.Rows.{ramAt, eepromAt, validAt, loginAt, timerAt, markAt, dueAt, startAt, countAt, locksAt}
 use Rattle.locks.specs.declared.Lock.{Lock}
 use Rattle.locks.specs.Locks.{added, sweptOf, locksIn, locksOctets}
 
@@ -18,22 +18,22 @@ one at x row = put at (x ∷ []) row
 -- ---- login, mark, removal due, TAB-START
 
 unfoldable pub loginRow : Bool → List ℕ → List ℕ
-loginRow b row = one 450 (cond b 1 0) row
+loginRow b row = one loginAt (cond b 1 0) row
 
 unfoldable pub markedRow : List ℕ → List ℕ
-markedRow row = one 455 1 row
+markedRow row = one markAt 1 row
 
 unfoldable pub dueRow : ℕ → List ℕ → List ℕ
-dueRow n row = one 456 n row
+dueRow n row = one dueAt n row
 
 -- the mark falls, nothing is due, TAB-START is start
 unfoldable pub closedRow : ℕ → List ℕ → List ℕ
-closedRow start row = one 457 start (dueRow 0 (one 455 0 row))
+closedRow start row = one startAt start (dueRow 0 (one markAt 0 row))
 
 -- ---- the timer
 
 unfoldable pub timerRow : List ℕ → List ℕ → List ℕ
-timerRow body row = put 451 body row
+timerRow body row = put timerAt body row
 
 unfoldable pub midnightRow : List ℕ → List ℕ
 midnightRow row = timerRow (replicate 4 0) row
@@ -42,7 +42,7 @@ midnightRow row = timerRow (replicate 4 0) row
 
 -- where the memory that LOC names begins
 abbrev pub memoryAt : Bool → ℕ
-memoryAt eeprom = cond eeprom 224 0
+memoryAt eeprom = cond eeprom eepromAt ramAt
 
 unfoldable pub writtenRow : Bool → ℕ → List ℕ → List ℕ → List ℕ
 writtenRow eeprom k bytes row = put (memoryAt eeprom + 14 * k) bytes row
@@ -52,23 +52,23 @@ unfoldable pub savedRow : ℕ → List ℕ → List ℕ
 savedRow k row = writtenRow true k (part (14 * k) 14 row) row
 
 unfoldable pub allSavedRow : List ℕ → List ℕ
-allSavedRow row = put 224 (part 0 224 row) row
+allSavedRow row = put eepromAt (part ramAt 224 row) row
 
 -- ---- the locks
 
 unfoldable pub unlockedRow : List ℕ → List ℕ
-unlockedRow row = one 458 0 row
+unlockedRow row = one countAt 0 row
 
 -- the locks that a row says
 abbrev pub locksOf : List ℕ → List Lock
-locksOf row = locksIn (getD row 458 0) (part 459 640 row)
+locksOf row = locksIn (getD row countAt 0) (part locksAt 640 row)
 
 -- the locks are these
 abbrev pub locksRow : List Lock → List ℕ → List ℕ
-locksRow ls row = one 458 (length ls) (put 459 (locksOctets ls) row)
+locksRow ls row = one countAt (length ls) (put locksAt (locksOctets ls) row)
 
 unfoldable pub lockedRow : ℕ → List ℕ → List ℕ
-lockedRow uid row = locksRow (added uid (u16At 448 row) (locksOf row)) row
+lockedRow uid row = locksRow (added uid (u16At validAt row) (locksOf row)) row
 
 -- ---- a tick of the locks, and of the timer
 
@@ -76,7 +76,7 @@ unfoldable pub sweptRow : List ℕ → List ℕ
 sweptRow row = locksRow (sweptOf (locksOf row)) row
 
 unfoldable pub steppedRow : List ℕ → List ℕ
-steppedRow row = timerRow (timerOctets (stepOf (timerFrom (part 451 4 row)))) row
+steppedRow row = timerRow (timerOctets (stepOf (timerFrom (part timerAt 4 row)))) row
 
 unfoldable pub tickedRow : List ℕ → List ℕ
 tickedRow row = steppedRow (sweptRow row)
@@ -85,11 +85,11 @@ tickedRow row = steppedRow (sweptRow row)
 
 -- RAM from EEPROM
 unfoldable pub loadedRow : List ℕ → List ℕ
-loadedRow row = put 0 (part 224 224 row) row
+loadedRow row = put ramAt (part eepromAt 224 row) row
 
 -- VALID-TIME in force from EEPROM block 12
 unfoldable pub validRow : List ℕ → List ℕ
-validRow row = put 448 (part 392 2 row) row
+validRow row = put validAt (part (eepromAt + 14 * 12) 2 row) row
 
 -- both; logged out, no locks
 unfoldable pub restartedRow : List ℕ → List ℕ

@@ -13,6 +13,7 @@ ghost use mathlib.Core.Bool.{cond};
 ghost use Prim.Native.Nat.{_≤_, _<_};
 ghost use lib.ListN.{length, getD};
 ghost use Rattle.store.specs.Layout.{rowWidth};
+ghost use Rattle.store.specs.Rows.{countAt};
 ghost use Rattle.rows.specs.Row.{restartedRow, midnightRow, unlockedRow, closedRow, markedRow, dueRow, loginRow, timerRow, memoryAt, writtenRow, savedRow, allSavedRow, lockedRow, sweptRow, steppedRow, tickedRow, defaultRow, clearedRow, systemRow};
 ghost use Rattle.rules.specs.Config.{blockAt, defaults};
 
@@ -133,7 +134,7 @@ pub fn restart(row: &mut [u8])
 
 // A new lock of VALID-TIME ticks; where 64 stand, the oldest gives way.
 pub fn add_lock(row: &mut [u8], uid: u64)
-    requires { ⌜ (length (now row) ≡ rowWidth) × (getD (now row) 458 0 ≤ 64) ⌝ }
+    requires { ⌜ (length (now row) ≡ rowWidth) × (getD (now row) countAt 0 ≤ 64) ⌝ }
     ensures { λ _. ⌜ now (row .exit) ≡ lockedRow uid (now (row .entry)) ⌝ }
 {
     let n = row[LOCKED] as usize;
@@ -144,7 +145,7 @@ pub fn add_lock(row: &mut [u8], uid: u64)
 
 // Each lock loses a tick, and goes at zero.
 fn tick_locks(row: &mut [u8])
-    requires { ⌜ (length (now row) ≡ rowWidth) × (getD (now row) 458 0 ≤ 64) ⌝ }
+    requires { ⌜ (length (now row) ≡ rowWidth) × (getD (now row) countAt 0 ≤ 64) ⌝ }
     ensures { λ _. ⌜ now (row .exit) ≡ sweptRow (now (row .entry)) ⌝ }
 {
     let n = row[LOCKED] as usize;
@@ -165,7 +166,7 @@ fn tick_timer(row: &mut [u8])
 
 // A tick of the locks and the timer.
 pub fn tick(row: &mut [u8])
-    requires { ⌜ (length (now row) ≡ rowWidth) × (getD (now row) 458 0 ≤ 64) ⌝ }
+    requires { ⌜ (length (now row) ≡ rowWidth) × (getD (now row) countAt 0 ≤ 64) ⌝ }
     ensures { λ _. ⌜ now (row .exit) ≡ tickedRow (now (row .entry)) ⌝ }
 {
     tick_locks(row);

@@ -26,7 +26,7 @@ use Rattle.rules.proofs.Facts.{RecordLegal, DeskLegal}
 use Rattle.rules.proofs.Tables.{record-legal}
 use Rattle.rules.proofs.Legality.{sighted-legal}
 use Rattle.store.specs.Layout.{rowWidth, rowAt, rowOf}
-use Rattle.store.specs.Rows.{field, fields}
+use Rattle.store.specs.Rows.{field, fields, countAt, locksAt, markAt, timerAt, validAt}
 use Rattle.store.specs.View.{deskOf, inUse}
 use Rattle.store.specs.Sound.{sound}
 use Rattle.rows.specs.Row.{markedRow, locksOf, lockedRow}
@@ -42,28 +42,28 @@ use Rattle.sightings.proofs.NewRecord.{held-is, recorded-says, same-pla
 -- ---- what is read of the row
 
 module _ (s : List ℕ) (e : sound s ≡ true) (d : ℕ) (h : d < desks) (at : ℕ) (q : at ≡ rowAt d s) where
-  pub few-there : getD s (at + 458) 0 ≤ 64
-  few-there = rw (q, ← part-at (rowAt d s) rowWidth s 458 (lit< tt)) (few-locks s e d h)
+  pub few-there : getD s (at + countAt) 0 ≤ 64
+  few-there = rw (q, ← part-at (rowAt d s) rowWidth s countAt (lit< tt)) (few-locks s e d h)
 
-  pub locks-lent : locksIn (getD s (at + 458) 0) (take (at + rowWidth - (at + 459)) (drop (at + 459) s)) ≡ kept d s .locks
+  pub locks-lent : locksIn (getD s (at + countAt) 0) (take (at + rowWidth - (at + locksAt)) (drop (at + locksAt) s)) ≡ kept d s .locks
   unfolding deskOf fields field upto part
   locks-lent =
-      let n : at + rowWidth - (at + 459) ≡ 640 = omega arith in
+      let n : at + rowWidth - (at + locksAt) ≡ 640 = omega arith in
       rw (n, q)
       (sym
       (ap (λ (k : Desk). k .locks) (kept-is s e d h)
-      ∙ ap (λ (m : ℕ). locksIn m (part 459 640 (rowOf d s))) (number-at 458 (rowOf d s) ∙ part-at (rowAt d s) rowWidth s 458 (lit< tt))
-      ∙ ap (locksIn (getD s (rowAt d s + 458) 0)) (part-part 459 640 (rowAt d s) rowWidth s (lit≤ tt))))
+      ∙ ap (λ (m : ℕ). locksIn m (part locksAt 640 (rowOf d s))) (number-at countAt (rowOf d s) ∙ part-at (rowAt d s) rowWidth s countAt (lit< tt))
+      ∙ ap (locksIn (getD s (rowAt d s + countAt) 0)) (part-part locksAt 640 (rowAt d s) rowWidth s (lit≤ tt))))
 
-  pub timer-read : timerFrom (part (at + 451) 4 s) ≡ kept d s .timer
+  pub timer-read : timerFrom (part (at + timerAt) 4 s) ≡ kept d s .timer
   unfolding deskOf fields field upto
-  timer-read = rw q (sym (ap (λ (k : Desk). k .timer) (kept-is s e d h) ∙ ap timerFrom (part-part 451 4 (rowAt d s) rowWidth s (lit≤ tt))))
+  timer-read = rw q (sym (ap (λ (k : Desk). k .timer) (kept-is s e d h) ∙ ap timerFrom (part-part timerAt 4 (rowAt d s) rowWidth s (lit≤ tt))))
 
 -- ---- the rows that are left
 
 pub marked-size : (row : List ℕ) → length (markedRow row) ≡ length row
 unfolding markedRow
-marked-size row = put-length 455 (1 ∷ []) row
+marked-size row = put-length markAt (1 ∷ []) row
 
 pub locked-size : (uid : ℕ) (row : List ℕ) → length (lockedRow uid row) ≡ length row
 unfolding lockedRow
@@ -71,7 +71,7 @@ locked-size uid row = simp put-length
 
 locked-flags : (uid : ℕ) (row : List ℕ) → length row ≡ rowWidth → Flags row → Flags (lockedRow uid row)
 unfolding lockedRow
-locked-flags uid row l f = locks-flags row l f (added uid (u16At 448 row) (locksOf row))
+locked-flags uid row l f = locks-flags row l f (added uid (u16At validAt row) (locksOf row))
 
 -- ---- the three ways
 

@@ -23,6 +23,7 @@ use Rattle.store.specs.Sound.{sound}
 use Rattle.locks.specs.Locks.{sweptOf}
 use Rattle.rows.specs.Row.{locksOf, tickedRow, steppedRow, timerRow, sweptRow}
 use Rattle.desk.specs.Obeyed.{kept, Says}
+use Rattle.store.specs.Rows.{timerAt}
 use Rattle.sightings.specs.Sighted.{Ticked}
 use Rattle.desk.proofs.Doing.{kept-is, row-size, row-flags, kept-legal, row-says}
 use Rattle.rows.proofs.Flagged.{Flags, timer-flags, locks-flags}
@@ -38,7 +39,7 @@ swept-size row = simp put-length
 
 pub ticked-size : (row : List ℕ) → length (tickedRow row) ≡ length row
 unfolding tickedRow steppedRow timerRow
-ticked-size row = put-length 451 _ (sweptRow row) ∙ swept-size row
+ticked-size row = put-length timerAt _ (sweptRow row) ∙ swept-size row
 
 ticked-flags : (row : List ℕ) → length row ≡ rowWidth → Flags row → Flags (tickedRow row)
 unfolding tickedRow steppedRow sweptRow

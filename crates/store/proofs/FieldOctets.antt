@@ -15,7 +15,7 @@ use Rattle.octets.proofs.Puts.{part-at}
 use Rattle.locks.specs.Locks.{mostLocks}
 use Rattle.table.specs.Entries.{share}
 use Rattle.rules.specs.Config.{blockAt, lineLegal, shapeLegal}
-use Rattle.store.specs.Rows.{fieldAt, fieldSize, field, fields}
+use Rattle.store.specs.Rows.{fieldAt, fieldSize, field, fields, countAt}
 use Rattle.store.specs.Sound.{countsRight}
 use Rattle.store.proofs.Fields.{field-at}
 
@@ -33,7 +33,7 @@ unfolding u16At
 field-pair row k l e = ap number (field-part row k l ∙ ap (λ (n : ℕ). part (fieldAt k) n row) e)
 
 -- where the counts are right, at most 64 locks
-pub locks-few : (row : List ℕ) → countsRight (fields row) ≡ true → getD row 458 0 ≤ mostLocks
+pub locks-few : (row : List ℕ) → countsRight (fields row) ≡ true → getD row countAt 0 ≤ mostLocks
 unfolding countsRight
 locks-few row e =
     let fs = fields row in

@@ -15,6 +15,7 @@ use Rattle.table.specs.Entries.{desks}
 use Rattle.rules.specs.Config.{defaults, validOf}
 use Rattle.rules.proofs.Memories.{defaults-legal}
 use Rattle.rules.proofs.Computed.{computed}
+use Rattle.store.specs.Rows.{loginAt, validAt}
 use Rattle.store.specs.Layout.{storeSize, rowWidth}
 use Rattle.store.specs.Fresh.{freshRow, freshHeader, freshStore}
 
@@ -44,15 +45,15 @@ zeros-behind xs s y n m e h z =
 -- ---- a row
 
 -- zeros, and before them the defaults twice and VALID-TIME v
-pub row-made : (v : ℕ) (s y : List ℕ) → v ≡ validOf defaults → length s ≡ rowWidth → y ≡ replicate (length (take 649 (drop 450 s))) 0
-    → put 448 (octets 2 v) (put 224 defaults (put 0 defaults (take 450 s ++ (y ++ drop 649 (drop 450 s))))) ≡ freshRow
+pub row-made : (v : ℕ) (s y : List ℕ) → v ≡ validOf defaults → length s ≡ rowWidth → y ≡ replicate (length (take 649 (drop loginAt s))) 0
+    → put validAt (octets 2 v) (put 224 defaults (put 0 defaults (take loginAt s ++ (y ++ drop 649 (drop loginAt s))))) ≡ freshRow
 unfolding freshRow
 row-made v s y e h z =
     let d : length defaults ≡ 224 = defaults-legal .size in
     let front = defaults ++ defaults ++ octets 2 (validOf defaults) in
-    let long : length front ≡ 450 = rw (length-append, length-append) (omega (arith, octets-length 2 (validOf defaults))) in
-    rw e (put-three defaults defaults (octets 2 (validOf defaults)) _ 224 448 d (omega arith)
-    ∙ zeros-behind front s y 450 649 long h z)
+    let long : length front ≡ loginAt = rw (length-append, length-append) (omega (arith, octets-length 2 (validOf defaults))) in
+    rw e (put-three defaults defaults (octets 2 (validOf defaults)) _ 224 validAt d (omega arith)
+    ∙ zeros-behind front s y loginAt 649 long h z)
 
 pub row-length : length freshRow ≡ rowWidth
 unfolding freshRow

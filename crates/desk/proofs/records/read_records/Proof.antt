@@ -9,6 +9,7 @@ use Rattle.octets.specs.Numbers.{u16At}
 use Rattle.octets.proofs.Puts.{put-length}
 use Rattle.store.specs.Layout.{rowWidth}
 use Rattle.rows.specs.Row.{dueRow}
+use Rattle.store.specs.Rows.{markAt}
 use Rattle.desk.proofs.LentRow.{sound-size, lent-inside, lent-done}
 use Rattle.desk.proofs.RowOctets.{row-octet}
 use Rattle.desk.proofs.TellsRecords.{none-asked, none-held, records-told}
@@ -71,7 +72,7 @@ returns-3 c =
     let at = a .row-at .ensures .0 in
     records-told _ (z .pre .0) _ (z .pre .1) _ _ _ _ (asked k) (λ q. some .if2 .left (there .held .ensures .0 ∙ q)) (λ i. z₁ .slice-known .given i .fits) _ _ _
     (wanted .least .ensures ∙ rw (k .before .get16 .ensures, there .held .ensures .0)) (n .least2 .ensures ∙ rw (n .before .most-sent .ensures .0)) _ _ _ (to .data-at .ensures .0) refl
-    (status .status-of .ensures ∙ rw (row-octet (z .args .s .now) (z .args .d) (a .row-at .result) at 455 (lit< tt)))
+    (status .status-of .ensures ∙ rw (row-octet (z .args .s .now) (z .args .d) (a .row-at .result) at markAt (lit< tt)))
     (lent-done _ (z .pre .0) _ (z .pre .1) _ at (dueRow (n .least2 .result)) _ (ap length (row .set-due .ensures) ∙ simp put-length) (row .set-due .ensures))
     (out .tell-records .ensures)
 

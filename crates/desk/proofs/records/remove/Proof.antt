@@ -10,6 +10,7 @@ use Rattle.octets.specs.Parts.{put}
 use Rattle.store.specs.Layout.{rowWidth, rowAt, rowOf}
 use Rattle.rows.specs.Row.{closedRow}
 use Rattle.rows.proofs.Lengths.{closed-length}
+use Rattle.store.specs.Rows.{dueAt, startAt}
 use Rattle.desk.proofs.LentRow.{sound-size, lent-inside, lent-done}
 use Rattle.desk.proofs.RowOctets.{row-octet}
 use Rattle.desk.proofs.Empties.{closing, removed-done}
@@ -34,15 +35,15 @@ slice-read-start : tie.Need-slice-read-start
 slice-read-start c = omega (arith, inside (c .before .before))
 
 cast-start : tie.Need-cast-start
-cast-start c = record { fits = omega (arith, c .slice-known3 .given (c .before .before .row-at .result + 457)) }
+cast-start c = record { fits = omega (arith, c .slice-known3 .given (c .before .before .row-at .result + startAt)) }
 
 cast-start-2 : tie.Need-cast-start-2
-cast-start-2 c = record { fits = omega (arith, c .slice-known3 .given (c .before .before .row-at .result + 456)) }
+cast-start-2 c = record { fits = omega (arith, c .slice-known3 .given (c .before .before .row-at .result + dueAt)) }
 
 add-start-2 : tie.Need-add-start-2
 add-start-2 c =
     let at = c .before .before .row-at .result in
-    record { fits = omega (arith, c .slice-known3 .given (at + 456), c .slice-known3 .given (at + 457)) }
+    record { fits = omega (arith, c .slice-known3 .given (at + dueAt), c .slice-known3 .given (at + startAt)) }
 
 part-close-table-end : tie.Need-part-close-table-end
 part-close-table-end c = omega (arith, inside (c .before .before))
@@ -50,7 +51,7 @@ part-close-table-end c = omega (arith, inside (c .before .before))
 cast-remove-first : tie.Need-cast-remove-first
 cast-remove-first c =
     let g = c .before .before .before .before .before in
-    record { fits = omega (arith, g .slice-known3 .given (g .before .before .row-at .result + 456)) }
+    record { fits = omega (arith, g .slice-known3 .given (g .before .before .row-at .result + dueAt)) }
 
 -- the store after the row
 changed : (c : tie.After-close-table) → let a = c .before .before .before .before in
@@ -59,12 +60,12 @@ changed : (c : tie.After-close-table) → let a = c .before .before .before .bef
     let s = z .args .s .now in
     let row = rowOf (z .args .d) s in
     take at s ++ (c .close-table .last .0 ++ drop (at + rowWidth - at) (drop at s))
-    ≡ put (rowAt (z .args .d) s) (closedRow ((getD row 457 0 + getD row 456 0) % 64) row) s
+    ≡ put (rowAt (z .args .d) s) (closedRow ((getD row startAt 0 + getD row dueAt 0) % 64) row) s
 changed c =
     let a = c .before .before .before .before in
     let z = a .before .before .before .before in
     let octet = row-octet (z .args .s .now) (z .args .d) (a .row-at .result) (a .row-at .ensures .0) in
-    rw (← octet 457 (lit< tt), ← octet 456 (lit< tt))
+    rw (← octet startAt (lit< tt), ← octet dueAt (lit< tt))
     (lent-done _ (z .pre .0) _ (z .pre .1) _ (a .row-at .ensures .0) (closedRow _) _ (ap length (c .close-table .ensures) ∙ closed-length _ _) (c .close-table .ensures))
 
 remove-first-requires : tie.Need-remove-first-requires
@@ -81,7 +82,7 @@ returns c =
     let a = k .before .before .before .before in
     let z₁ = a .before .before .before in
     let z = z₁ .before in
-    rw (f .remove-first .ensures, changed k, row-octet (z .args .s .now) (z .args .d) (a .row-at .result) (a .row-at .ensures .0) 456 (lit< tt))
+    rw (f .remove-first .ensures, changed k, row-octet (z .args .s .now) (z .args .d) (a .row-at .result) (a .row-at .ensures .0) dueAt (lit< tt))
     (removed-done _ (z .pre .0) _ (z .pre .1) (λ i. z₁ .slice-known .given i .fits) _ (c .plain .ensures) _)
 
 pub remove-spec : {M : Type 1} → statement M

@@ -4,6 +4,7 @@ use mathlib.Core.Path.{refl}
 use native.Mathlib.Omega.{arith}
 use borrow.Author.Needs.{needs}
 use lib.Dec.{lit<}
+use Rattle.store.specs.Rows.{startAt}
 use Rattle.desk.proofs.LentRow.{sound-size, lent-inside}
 use Rattle.desk.proofs.RowOctets.{row-octet}
 use Rattle.desk.proofs.TellsRecords.{table-told}
@@ -24,7 +25,7 @@ shared-slice-read-start c =
 cast-put16 : tie.Need-cast-put16
 cast-put16 c =
     let g = c .before .before .before .before .before in
-    record { fits = omega (arith, g .shared-slice-known3 .given (g .before .row-at .result + 457)) }
+    record { fits = omega (arith, g .shared-slice-known3 .given (g .before .row-at .result + startAt)) }
 
 returns : tie.Need-returns
 returns c =
@@ -36,7 +37,7 @@ returns c =
     let t = a .before in
     let z = t .before .before .before .before in
     table-told _ (z .pre .0) _ (z .pre .1) _ _ _ _ _ _ _ _ _ _ (t .data-at .ensures .0)
-    (row-octet _ _ _ (a .row-at .ensures .0) 457 (lit< tt)) (n .held .ensures .0) refl (one .put16 .ensures) (two .put162 .ensures) (three .put163 .ensures)
+    (row-octet _ _ _ (a .row-at .ensures .0) startAt (lit< tt)) (n .held .ensures .0) refl (one .put16 .ensures) (two .put162 .ensures) (three .put163 .ensures)
 
 pub send-table-spec : {M : Type 1} → statement M
 send-table-spec =

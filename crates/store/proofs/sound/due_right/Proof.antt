@@ -2,6 +2,7 @@
 use mathlib.Core.Path.{refl}
 use lib.Dec.{lit<}
 use native.Mathlib.Omega.{arith}
+use Rattle.store.specs.Rows.{dueAt}
 use Rattle.store.specs.Sound.{dueRight}
 use Rattle.store.proofs.FieldOctets.{field-octet}
 use borrow.Author.Needs.{needs}
@@ -9,7 +10,7 @@ use Rattle.store.proofs.sound.due_right.Statement.{statement}
 use Rattle.store.proofs.sound.due_right.Tie as tie
 
 cast-result : tie.Need-cast-result
-cast-result c = omega (arith, c .shared-slice-known .given 456)
+cast-result c = omega (arith, c .shared-slice-known .given dueAt)
 
 returns : tie.Need-returns
 unfolding dueRight

@@ -5,6 +5,7 @@ use lib.Dec.{lit<}
 use lib.ListN.{getD, length-take, length-drop}
 use native.Mathlib.Omega.{arith}
 use Rattle.octets.specs.Parts.{part}
+use Rattle.store.specs.Rows.{countAt}
 use Rattle.store.specs.Sound.{locksRight}
 use Rattle.store.proofs.FieldOctets.{field-part, field-octet, field-pair, locks-few}
 use borrow.Author.Needs.{needs}
@@ -12,12 +13,12 @@ use Rattle.store.proofs.sound.locks_right.Statement.{statement}
 use Rattle.store.proofs.sound.locks_right.Tie as tie
 
 cast-legal : tie.Need-cast-legal
-cast-legal c = omega (arith, c .shared-slice-known2 .given 458)
+cast-legal c = omega (arith, c .shared-slice-known2 .given countAt)
 
 legal-requires : tie.Need-legal-requires
 legal-requires c κs =
     let z = c .before .before .before .before in
-    let few : getD (z .args .row .now) 458 0 ≤ 64 = locks-few _ (z .pre .1) in
+    let few : getD (z .args .row .now) countAt 0 ≤ 64 = locks-few _ (z .pre .1) in
     (few, simp (length-take, length-drop) (omega arith))
 
 returns : tie.Need-returns
