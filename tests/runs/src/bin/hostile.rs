@@ -37,9 +37,19 @@ impl Hostile {
         }
     }
 
+    /// The next line that is an event, so that every turn is a call.
+    fn next_event(&mut self) -> Event {
+        loop {
+            match event(&self.gen.next_line()) {
+                Event::NotRead => {}
+                event => return event,
+            }
+        }
+    }
+
     /// The next event of a long history.
     fn sound_store(&mut self) -> u64 {
-        let event = event(&self.gen.next_line());
+        let event = self.next_event();
         let (code, store) = self.compared(&self.store, &event, 842);
         self.store = store;
         code
@@ -47,7 +57,7 @@ impl Hostile {
 
     /// Any event on a store that is damaged, of another size, or of noise.
     fn any_store(&mut self) -> u64 {
-        let event = event(&self.gen.next_line());
+        let event = self.next_event();
         let random = &self.gen.random;
         let mut store = match random.below(8) {
             0 => zeros(random),
