@@ -1,4 +1,4 @@
--- The user's three demands, each as one theorem over the promises of the calls. Assumes nothing.
+-- The user's three demands, a theorem for each of their sentences, over the promises of the calls. Assumes nothing.
 use Prim.Native.Nat.{ℕ, _≤_, _<_}
 use mathlib.Core.Path.{_≡_, subst}
 use mathlib.Core.Bool.{Bool, true, false, cond}
@@ -26,7 +26,7 @@ use Rattle.requests.specs.declared.Request.{Request}
 use Rattle.maker.specs.Maker.{Requested}
 use Rattle.demands.specs.History.{Deed, eventsOf, History}
 use Rattle.demands.specs.Answers.{ofItsList, GaveAll, heardBy}
-use Rattle.demands.specs.Exchange.{Carriable, ReadBack}
+use Rattle.demands.specs.Exchange.{ReadBack}
 use Rattle.demands.proofs.Steps.{lived}
 use Rattle.demands.proofs.Listed.{refused-writes-nothing, always-listed}
 use Rattle.demands.proofs.Isolated.{isolated}

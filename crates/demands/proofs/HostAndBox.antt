@@ -3,7 +3,7 @@
 use Prim.Native.Nat.{ℕ, _≤_}
 use mathlib.Core.Path.{_≡_, refl, sym, ap, _∙_}
 use mathlib.Core.Bool.{true, not}
-use mathlib.Core.List.{List, _∷_}
+use mathlib.Core.List.{List}
 use mathlib.Core.Option.{none}
 use native.Mathlib.Omega.{arith}
 use lib.ListN.{length, take, set, length-set}
@@ -15,16 +15,12 @@ use Rattle.octets.proofs.Tests.{and-left, none-head, none-tail}
 use Rattle.octets.specs.Parts.{put}
 use Rattle.octets.proofs.Each.{all-set}
 use Rattle.octets.proofs.Puts.{put-front}
-use Rattle.frame.proofs.Seal.{length-frame}
 use Rattle.rules.specs.declared.Written.the-variants as written
-use Rattle.rules.specs.Control.{known}
 use Rattle.rules.specs.Desk.{Desk, freshDesk}
-use Rattle.rules.specs.Command.{answered}
 use Rattle.rules.specs.Box.{Box, freshBox, deskAt, noDesk, frame, reply, placed}
 use Rattle.rules.specs.Legal.{boxLegal}
 use Rattle.rules.proofs.Facts.{DeskLegal, desk-facts, box-test}
 use Rattle.rules.proofs.Legality.{fresh-facts}
-use Rattle.rules.proofs.Replies.{obey-carried}
 use Rattle.rules.proofs.Output.{wrote-octets}
 use Rattle.store.specs.Sound.{sound}
 use Rattle.store.specs.View.{view}
@@ -32,7 +28,7 @@ use Rattle.store.proofs.LegalView.{desk-of-view}
 use Rattle.store.proofs.EveryBox.{Said, every-box}
 use Rattle.depot.specs.declared.Answer.{Answer}
 use Rattle.depot.specs.Called.{Called, Ended, stepOn}
-use Rattle.depot.proofs.Replying.{longest-fits}
+use Rattle.depot.proofs.Short.{answer-brief}
 use Rattle.requests.specs.declared.Request.{Request}
 use Rattle.requests.specs.Request.{controlOf, dataFor, fieldsHold, denied, inRange, requestFrame}
 use Rattle.maker.specs.Maker.{makerRefusals, Requested}
@@ -52,11 +48,7 @@ module _ (q : Request) (c : Carriable q) (s : List ℕ) (still : sound s ≡ tru
   only-possible = answer-possible q (deskAt (view s) (q .desk)) legal (c .bytes) (c .desk) (c .fields)
 
   short : length (replyTo q s) ≤ 842
-  unfolding answered
-  short =
-      let r = ruledBy q s in
-      let small = obey-carried (known (controlOf (q .ask))) (q .kind) (deskAt (view s) (q .desk)) (dataFor q) legal .small in
-      omega (arith, length-frame (q .kind) (q .desk) (controlOf (q .ask)) (r .status ∷ r .sent), longest-fits (q .kind))
+  short = answer-brief (q .kind) (q .desk) (controlOf (q .ask)) (deskAt (view s) (q .desk)) (dataFor q) legal
 
   module _ (out : List ℕ) (room : 842 ≤ length out) where
     steps : stepOn s (frame (requestFrame q) (length out)) .answer ≡ reply (replyTo q s)

@@ -1,6 +1,6 @@
 -- Demand 3: what a desk hears of a history goes by its own events alone. Assumes nothing.
 use Prim.Native.Nat.{ℕ, _≤_, _<_}
-use mathlib.Core.Path.{_≡_, refl, sym, ap, ap₂, _∙_}
+use mathlib.Core.Path.{_≡_, refl, sym, ap, ap₂, subst, _∙_}
 use mathlib.Core.Bool.{Bool, true, false, cond}
 use mathlib.Core.List.{List, [], _∷_, map}
 use mathlib.Core.Option.{Option, none, some}
@@ -9,21 +9,19 @@ use lib.ListN.{length, take}
 use lib.Seq.{take-at}
 use borrow.Author.Tests.{ltb-false}
 use Rattle.octets.specs.Tests.{first, all}
-use Rattle.octets.proofs.Each.{All, Octet}
 use Rattle.octets.proofs.Tests.{none-head, and-left, and-right}
 use Rattle.octets.proofs.Puts.{put-front}
 use Rattle.frame.specs.declared.Refusal.{Refusal}
 use Rattle.rules.specs.Box.{Box, freshBox, deskAt, frame, sighting, tick, Answer as RuleAnswer, refused, reply, seen, ok, AtDesk, request, served, sighted, placed, unlessRefused, frameRefusals, sightingRefusals, step, run}
 use Rattle.rules.specs.Events.{concerns, history, answersOf}
 use Rattle.rules.specs.Legal.{fitting}
-use Rattle.rules.proofs.Facts.{DeskLegal, BoxLegal, Fitting, fitting-facts}
+use Rattle.rules.proofs.Facts.{BoxLegal, Fitting, fitting-facts}
 use Rattle.rules.proofs.Legality.{fresh-facts, desk-in-box, step-facts}
-use Rattle.rules.proofs.Replies.{served-reply}
 use Rattle.rules.proofs.Isolation.{isolation}
 use Rattle.store.specs.View.{view}
 use Rattle.depot.specs.declared.Answer.{Answer}
 use Rattle.depot.specs.declared.Answer.the-variants.{Refused, Reply, Sighted, Done}
-use Rattle.depot.proofs.Replying.{longest-fits}
+use Rattle.depot.proofs.Short.{Brief, served-brief}
 use Rattle.demands.specs.History.{Call, eventOf, lentTo, Deed, eventsOf, History}
 use Rattle.demands.specs.History as calls
 use Rattle.demands.specs.Answers.{Gave, GaveAll, Heard, octetsOf, heardOf, heardBy}
@@ -37,21 +35,13 @@ unless-reply none box n a t e = (refl, e)
 unless-reply (some r) box n a t e = let z : _≡_ {A = ℕ} 0 1 = cc in absurd (omega arith)
 
 module _ (box : Box) (legal : BoxLegal box) where
-  frame-fits : (f : List ℕ) (room : ℕ) (t : List ℕ) → All Octet f → step box (frame f room) .answer ≡ reply t → length t ≤ room
+  frame-fits : (f : List ℕ) (room : ℕ) (t : List ℕ) → step box (frame f room) .answer ≡ reply t → length t ≤ room
   unfolding step frameRefusals
-  frame-fits f room t o e =
+  frame-fits f room t e =
       let n = request f .address in
-      let d : DeskLegal (deskAt box n) = desk-in-box box n legal in
       let u = unless-reply (first (frameRefusals f room)) box n (served f (deskAt box n)) t e in
-      let s = served-reply f (deskAt box n) o d in
-      let same : length (s .0) ≡ length t = ap replied-length (sym (s .1) ∙ u .1) in
-      omega (arith, s .2 .small, longest-fits (request f .kind), ltb-false room 842 (none-head _ _ _ (u .0)))
-    where
-      replied-length : RuleAnswer → ℕ
-      replied-length (refused r) = 0
-      replied-length (reply x) = length x
-      replied-length (seen w) = 0
-      replied-length ok = 0
+      let brief : length t ≤ 842 = subst Brief (u .1) (served-brief f (deskAt box n) (desk-in-box box n legal)) in
+      omega (arith, ltb-false room 842 (none-head _ _ _ (u .0)))
 
   sighting-fits : (n uid mask : ℕ) (t : List ℕ) → step box (sighting n uid mask) .answer ≡ reply t → ⊥
   unfolding step sighted
@@ -64,10 +54,10 @@ module _ (box : Box) (legal : BoxLegal box) where
   unfolding step
   tick-fits t e = let z : _≡_ {A = ℕ} 0 1 = cc in omega arith
 
-  call-fits : (c : Call) → Fitting (eventOf c) → (t : List ℕ) → step box (eventOf c) .answer ≡ reply t → length t ≤ length (lentTo c)
-  call-fits (calls.frame f out) o t e = frame-fits f (length out) t o e
-  call-fits (calls.sighting n uid mask) o t e = absurd (sighting-fits n uid mask t e)
-  call-fits calls.tick o t e = absurd (tick-fits t e)
+  call-fits : (c : Call) (t : List ℕ) → step box (eventOf c) .answer ≡ reply t → length t ≤ length (lentTo c)
+  call-fits (calls.frame f out) t e = frame-fits f (length out) t e
+  call-fits (calls.sighting n uid mask) t e = absurd (sighting-fits n uid mask t e)
+  call-fits calls.tick t e = absurd (tick-fits t e)
 
 -- ---- what is heard of one call, and of all
 
@@ -104,7 +94,7 @@ module _ (n : ℕ) where
       let e = eventOf (d .call) in
       let fit : Fitting e = fitting-facts e (and-left (fitting e) (all fitting (eventsOf ds)) typed) in
       heard-cond (concerns n e) (heardOf d) (step box e .answer) _ _
-      (heard-is (step box e .answer) d (g .0) (call-fits box legal (d .call) fit))
+      (heard-is (step box e .answer) d (g .0) (call-fits box legal (d .call)))
       (heard-all ds (step box e .box) (step-facts box e legal fit) (and-right (fitting e) (all fitting (eventsOf ds)) typed) (g .1))
 
 pub heard-of-desk : (n : ℕ) (ds : List Deed) (s : List ℕ) → History ds s → heardBy n ds ≡ map told (answersOf n freshBox (eventsOf ds))

@@ -8,9 +8,11 @@ use native.Mathlib.Omega.{arith}
 use lib.ListN.{length}
 use Rattle.octets.specs.Tests.{first}
 use Rattle.octets.specs.Numbers.{Octets}
+use Rattle.frame.specs.declared.Kind.{Kind}
 use Rattle.frame.specs.declared.Refusal.{Refusal}
 use Rattle.frame.specs.declared.Refusal.the-variants.{Unsound}
-use Rattle.frame.specs.Judged.{partsOf, dataOf}
+use Rattle.frame.specs.Judged.{dataOf}
+use Rattle.frame.specs.Sealed.{frameOf}
 use Rattle.frame.proofs.Seal.{length-frame}
 use Rattle.rules.specs.Control.{known}
 use Rattle.rules.specs.Command.{answered}
@@ -34,7 +36,7 @@ Short Done = Unit {0}
 
 -- ---- of the rules' answers
 
-abbrev Brief : RuleAnswer → Type 0
+abbrev pub Brief : RuleAnswer → Type 0
 Brief (refused r) = Unit {0}
 Brief (reply t) = length t ≤ 842
 Brief (seen w) = Unit {0}
@@ -54,13 +56,18 @@ on-brief s e h = go (sound s) h
     go true f = f refl
     go false f = tt
 
-served-brief : (f : List ℕ) (d : Desk) → DeskLegal d → Brief (served f d .answer)
-unfolding served answered request partsOf
-served-brief f d legal =
-    let p = request f in
-    let r = answered (p .kind) d (p .control) (dataOf p f) in
-    let small = obey-carried (known (p .control)) (p .kind) d (dataOf p f) legal .small in
-    omega (arith, length-frame (p .kind) (p .address) (p .control) (r .status ∷ r .sent), longest-fits (p .kind))
+-- the reply that carries a desk's answer
+pub answer-brief : (kind : Kind) (adr control : ℕ) (d : Desk) (body : List ℕ) → DeskLegal d
+    → let r = answered kind d control body in length (frameOf kind adr control (r .status ∷ r .sent)) ≤ 842
+unfolding answered
+answer-brief kind adr control d body legal =
+    let r = answered kind d control body in
+    let small = obey-carried (known control) kind d body legal .small in
+    omega (arith, length-frame kind adr control (r .status ∷ r .sent), longest-fits kind)
+
+pub served-brief : (f : List ℕ) (d : Desk) → DeskLegal d → Brief (served f d .answer)
+unfolding served
+served-brief f d legal = let p = request f in answer-brief (p .kind) (p .address) (p .control) d (dataOf p f) legal
 
 frame-brief : (f s : List ℕ) (room : ℕ) → Octets s → sound s ≡ true → Brief (step (view s) (frame f room) .answer)
 unfolding step placed

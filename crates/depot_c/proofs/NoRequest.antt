@@ -1,7 +1,7 @@
 -- What is no request is refused: by the maker with 6, after 5, and by the reader with 8, after 3 and 4. Assumes nothing.
 use Prim.Native.Nat.{ℕ}
 use mathlib.Core.Path.{_≡_, refl}
-use mathlib.Core.Bool.{Bool, true, false, cond, _&&_}
+use mathlib.Core.Bool.{Bool, true, false, cond, and-false}
 use mathlib.Core.List.{List, [], _∷_, _++_}
 use mathlib.Core.Logic.{_⊎_, inl, inr}
 use mathlib.Core.Option.{some}
@@ -18,10 +18,6 @@ use Rattle.reader.specs.Possible.{possible}
 use Rattle.maker.specs.Maker.{makerRefusals}
 use Rattle.reader.specs.Reader.{answersTo, readerRefusals}
 use Rattle.depot_c.specs.Numbers.{noAsk, whole, requestOf}
-
-and-false : (a : Bool) → a && false ≡ false
-and-false true = refl
-and-false false = refl
 
 -- no frame kind or no block beside a write; or a control byte that is none of the fourteen
 pub no-ask : (kind desk control a b c : ℕ) (bytes : List ℕ) → (whole kind control bytes ≡ false) ⊎ (known control ≡ Unknown) → requestOf kind desk control a b c bytes .ask ≡ noAsk

@@ -28,7 +28,7 @@ pub fn full() -> Vec<u8> {
     filled(1)
 }
 
-/// Tags that share one mark of the library's soundness test: the worst that a stranger can write.
+/// Tags that share one bucket of the library's soundness test: the worst that a stranger can write.
 pub fn alike() -> Vec<u8> {
     filled(251)
 }

@@ -1,4 +1,4 @@
--- `locks::all_differ` meets its contract: before each turn of the outer loop the locks from i on differ, and each of them has its mark;
+-- `locks::all_differ` meets its contract: before each turn of the outer loop the locks from i on differ, and the bucket of each is taken;
 -- before each turn of the inner one whether the UID stands from i on is whether it stands from j on. Assumes nothing.
 use mathlib.Core.Path.{_≡_, sym, _∙_}
 use mathlib.Core.Bool.{true}
@@ -7,24 +7,24 @@ use native.Mathlib.Omega.{arith}
 use lib.ListN.{length, take, drop, length-set, length-replicate}
 use borrow.Author.Needs.{needs}
 use Rattle.locks.specs.Locks.{locked, distinct}
-use Rattle.locks.specs.Marks.{Marked}
+use Rattle.locks.specs.Buckets.{Covered}
 use Rattle.locks.proofs.Fronts.{stands-here, stands-later, stands-end, distinct-end}
-use Rattle.locks.proofs.Marking.{marked-none, searched, found-behind, not-behind, marked-more}
+use Rattle.locks.proofs.Covering.{covered-none, searched, found-behind, not-behind, covered-more}
 use Rattle.locks.proofs.Lent.{none}
 use Rattle.locks.proofs.all_differ.Statement.{statement}
 use Rattle.locks.proofs.all_differ.Tie as tie
 
 abbrev Inv-loop2 : tie.InvT-loop2
-Inv-loop2 n a marks i uid j₀ j = (j ≤ n) × (locked uid (drop i (take n a)) ≡ locked uid (drop j (take n a)))
+Inv-loop2 n a buckets i uid j₀ j = (j ≤ n) × (locked uid (drop i (take n a)) ≡ locked uid (drop j (take n a)))
 
 abbrev μ-loop2 : tie.MeasureT-loop2
-μ-loop2 n a marks i uid j₀ j = n - j
+μ-loop2 n a buckets i uid j₀ j = n - j
 
 abbrev Inv-loop : tie.InvT-loop
-Inv-loop n a marks₀ i₀ marks i = (i ≤ n) × (n ≤ length a) × (length marks ≡ 256) × (distinct (drop i (take n a)) ≡ true) × Marked marks (drop i (take n a))
+Inv-loop n a buckets₀ i₀ buckets i = (i ≤ n) × (n ≤ length a) × (length buckets ≡ 256) × (distinct (drop i (take n a)) ≡ true) × Covered buckets (drop i (take n a))
 
 abbrev μ-loop : tie.MeasureT-loop
-μ-loop n a marks₀ i₀ marks i = i
+μ-loop n a buckets₀ i₀ buckets i = i
 
 loop-holds : tie.Need-loop-holds Inv-loop2 μ-loop2 Inv-loop μ-loop
 loop-holds c =
@@ -33,7 +33,7 @@ loop-holds c =
       search needs,
       length-replicate {A = ℕ} 256 0,
       distinct-end (a .t1) (a .n) none (search needs) (a .n) (search needs),
-      marked-none _ (a .t1) (a .n) none (search needs),
+      covered-none _ (a .t1) (a .n) none (search needs),
     )
 
 search-from-requires : tie.Need-search-from-requires Inv-loop2 μ-loop2 Inv-loop μ-loop
@@ -65,10 +65,10 @@ loop2-again c =
     let a = o .before .args in
     (omega arith, m .inv .1 ∙ stands-later (a .t1) (a .n) none (l .inv .1) _ (m .j) (t .loop2-test .taken) (c .if1 .left))
 
-array-write-marks : tie.Need-array-write-marks Inv-loop2 μ-loop2 Inv-loop μ-loop
-array-write-marks c =
+array-write-buckets : tie.Need-array-write-buckets Inv-loop2 μ-loop2 Inv-loop μ-loop
+array-write-buckets c =
     let l = c .before .before .before .before .before .before .before .loop in
-    omega (arith, l .inv .2, c .mark-of .ensures)
+    omega (arith, l .inv .2, c .bucket-of .ensures)
 
 loop-again : tie.Need-loop-again Inv-loop2 μ-loop2 Inv-loop μ-loop
 loop-again c =
@@ -82,7 +82,7 @@ loop-again c =
       l .inv .1,
       simp length-set (l .inv .2),
       not-behind (a .t1) (a .n) none (l .inv .1) (l .i) (l .i - 1) (omega arith) (l .inv .0) alone (l .inv .3),
-      rw (c .mark-of .ensures) (marked-more (a .t1) (a .n) none (l .inv .1) (l .i) (l .i - 1) (omega arith) (l .inv .0) _ (l .inv .2) (l .inv .4)),
+      rw (c .bucket-of .ensures) (covered-more (a .t1) (a .n) none (l .inv .1) (l .i) (l .i - 1) (omega arith) (l .inv .0) _ (l .inv .2) (l .inv .4)),
     )
 
 returns-2 : tie.Need-returns-2 Inv-loop2 μ-loop2 Inv-loop μ-loop
@@ -113,7 +113,7 @@ all-differ-spec =
     (λ c. search needs)
     loop2-again
     (λ c κs. search needs)
-    array-write-marks
+    array-write-buckets
     (λ c. search needs)
     (λ c. search needs)
     loop-again
