@@ -7,7 +7,7 @@ use mathlib.Core.Logic.{_⊎_, inl, inr}
 use lib.ListN.{length, take}
 use lib.Dec.{eqb}
 use Rattle.octets.specs.Numbers.{Octets as AllOctets}
-use Rattle.octets.specs.Tests.{all}
+use Rattle.octets.specs.Tests.{allOf}
 use Rattle.frame.specs.declared.Refusal.{Refusal}
 use Rattle.frame.specs.declared.Refusal.the-variants.{Unsound}
 use Rattle.rules.specs.declared.Written.the-variants.{Octets}
@@ -66,5 +66,5 @@ pub no-desk-shows : (n : ℕ) → n < 8 → (ds ds′ : List Deed) (s s′ : Lis
 no-desk-shows = isolated
 
 -- M1 to M12, of the definitions that the promises cite
-pub edges : all (λ (b : Bool). b) cases ≡ true
+pub edges : allOf (λ (b : Bool). b) cases ≡ true
 edges = cases-hold

@@ -8,7 +8,7 @@ use native.Mathlib.Omega.{arith}
 use lib.ListN.{length, take}
 use lib.Seq.{take-at}
 use borrow.Author.Tests.{ltb-false}
-use Rattle.octets.specs.Tests.{first, all}
+use Rattle.octets.specs.Tests.{first, allOf}
 use Rattle.octets.proofs.Tests.{none-head, and-left, and-right}
 use Rattle.octets.proofs.Puts.{put-front}
 use Rattle.frame.specs.declared.Refusal.{Refusal}
@@ -86,16 +86,16 @@ module _ (n : ℕ) where
   heard-cond true x t xs ts p q = ap₂ _∷_ p q
   heard-cond false x t xs ts p q = q
 
-  heard-all : (ds : List Deed) (box : Box) → BoxLegal box → all fitting (eventsOf ds) ≡ true → GaveAll (run box (eventsOf ds)) ds
+  heard-all : (ds : List Deed) (box : Box) → BoxLegal box → allOf fitting (eventsOf ds) ≡ true → GaveAll (run box (eventsOf ds)) ds
       → heardBy n ds ≡ map told (answersOf n box (eventsOf ds))
-  unfolding heardBy answersOf run GaveAll all
+  unfolding heardBy answersOf run GaveAll allOf
   heard-all [] box legal typed g = refl
   heard-all (d ∷ ds) box legal typed g =
       let e = eventOf (d .call) in
-      let fit : Fitting e = fitting-facts e (and-left (fitting e) (all fitting (eventsOf ds)) typed) in
+      let fit : Fitting e = fitting-facts e (and-left (fitting e) (allOf fitting (eventsOf ds)) typed) in
       heard-cond (concerns n e) (heardOf d) (step box e .answer) _ _
       (heard-is (step box e .answer) d (g .0) (call-fits box legal (d .call)))
-      (heard-all ds (step box e .box) (step-facts box e legal fit) (and-right (fitting e) (all fitting (eventsOf ds)) typed) (g .1))
+      (heard-all ds (step box e .box) (step-facts box e legal fit) (and-right (fitting e) (allOf fitting (eventsOf ds)) typed) (g .1))
 
 pub heard-of-desk : (n : ℕ) (ds : List Deed) (s : List ℕ) → History ds s → heardBy n ds ≡ map told (answersOf n freshBox (eventsOf ds))
 heard-of-desk n ds s h = heard-all n ds freshBox fresh-facts (h .typed) (lived ds s h .gave)

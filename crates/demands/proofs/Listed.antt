@@ -8,7 +8,8 @@ use mathlib.Core.Option.{Option, none, some}
 use native.Mathlib.Omega.{arith}
 use lib.ListN.{length}
 use Rattle.octets.specs.Tests.{first}
-use Rattle.octets.proofs.Each.{All, given-each}
+use Rattle.octets.specs.Each.{All}
+use Rattle.octets.proofs.Each.{given-each}
 use Rattle.frame.specs.declared.Refusal.{Refusal}
 use Rattle.frame.specs.declared.Refusal.the-variants.{Unsound}
 use Rattle.frame.specs.Judged.{faults}

@@ -5,7 +5,7 @@ use mathlib.Core.Bool.{true}
 use mathlib.Core.List.{List, _∷_}
 use lib.ListN.{length, take}
 use Rattle.octets.specs.Parts.{part}
-use Rattle.octets.proofs.Each.{All, Octet}
+use Rattle.octets.specs.Each.{All, Octet}
 use Rattle.frame.specs.Shape.{shapeOf}
 use Rattle.frame.specs.Sealed.{frameOf}
 use Rattle.rules.specs.Command.{Result, answered}

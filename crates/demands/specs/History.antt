@@ -5,7 +5,7 @@ use mathlib.Core.Path.{_≡_}
 use mathlib.Core.Bool.{true}
 use mathlib.Core.List.{List, [], _∷_, map}
 use lib.ListN.{length}
-use Rattle.octets.specs.Tests.{all}
+use Rattle.octets.specs.Tests.{allOf}
 use Rattle.rules.specs.Box.{Event}
 use Rattle.rules.specs.Legal.{fitting}
 use Rattle.depot.specs.declared.Answer.{Answer}
@@ -48,5 +48,5 @@ pub record History (ds : List Deed) (s : List ℕ) : Type 0 where
   pub buffer : List ℕ
   pub fresh : List ℕ
   pub made : Made buffer Done fresh
-  pub typed : all fitting (eventsOf ds) ≡ true
+  pub typed : allOf fitting (eventsOf ds) ≡ true
   pub ran : Ran fresh ds s

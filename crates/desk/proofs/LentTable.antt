@@ -8,7 +8,7 @@ use native.Mathlib.Omega.{arith}
 use lib.Dec.{lit<}
 use lib.Seq.{length-take-le}
 use lib.ListN.{length, take, drop, length-take, length-drop, length-append}
-use Rattle.octets.specs.Parts.{part, put, concat}
+use Rattle.octets.specs.Parts.{part, put, joined}
 use Rattle.octets.specs.Numbers.{octets}
 use Rattle.octets.proofs.Tests.{and-right}
 use Rattle.octets.proofs.Puts.{put-length, put-append}
@@ -40,7 +40,7 @@ module _ (s : List ℕ) (e : sound s ≡ true) where
   use-fits = omega (arith, facts .head .used, area-length s facts 2 (lit< tt))
 
   -- the first m records of desk d, one after the other, and with their count
-  pub told-length : (d m : ℕ) → m ≤ length (recordsOf d (inUse s)) → length (concat (take m (recordsOf d (inUse s)))) ≡ recordWidth * m
+  pub told-length : (d m : ℕ) → m ≤ length (recordsOf d (inUse s)) → length (joined (take m (recordsOf d (inUse s)))) ≡ recordWidth * m
   told-length d m few =
       let n : length (take m (recordsOf d (inUse s))) ≡ m = length-take-le m (recordsOf d (inUse s)) few in
       (rw (← in-use s) at (gather-size (usedOf (header s)) d 0 (area s 2) use-fits m)) ∙ ap (λ (k : ℕ). recordWidth * k) n
@@ -74,22 +74,22 @@ module _ (s : List ℕ) (e : sound s ≡ true) where
     back-length xs ys y = ap length (table-back ys (ap length y ∙ put-length 0 xs lent)) ∙ put-length at ys s ∙ facts .size
 
     -- the entries are back without the first k of desk d, and then their count is written
-    pub removed-back : (d k left : ℕ) (ys : List ℕ) → left ≡ length (without d k (entries n lent)) → ys ≡ put 0 (concat (without d k (entries n lent))) lent
+    pub removed-back : (d k left : ℕ) (ys : List ℕ) → left ≡ length (without d k (entries n lent)) → ys ≡ put 0 (joined (without d k (entries n lent))) lent
         → put 4 (octets 2 left) (take at s ++ (ys ++ drop (at + width * entryCount - at) (drop at s))) ≡ removedFrom d k s
     unfolding removedFrom area part
     removed-back d k left ys l y =
         let m : at + width * entryCount - at ≡ width * entryCount = omega arith in
         let es = without d k (inUse s) in
-        let same : ys ≡ put 0 (concat es) (take (width * entryCount) (drop (startOf (header s) 2) s)) = y ∙ rw (table-lent, m, q) in
-        rw (table-back ys (ap length y ∙ put-length 0 (concat (without d k (entries n lent))) lent), l, table-lent, q, same)
+        let same : ys ≡ put 0 (joined es) (take (width * entryCount) (drop (startOf (header s) 2) s)) = y ∙ rw (table-lent, m, q) in
+        rw (table-back ys (ap length y ∙ put-length 0 (joined (without d k (entries n lent))) lent), l, table-lent, q, same)
 
     -- the count m stands in the output already; the first m records of desk d come behind it
     pub counted-back : (d m to : ℕ) (out one ys : List ℕ) → m ≤ length (recordsOf d (inUse s)) → to + 2 + recordWidth * m ≤ length out → one ≡ put to (octets 2 m) out
-        → ys ≡ put 0 (concat (take m (recordsOf d (entries n lent)))) (take (length one - (to + 2)) (drop (to + 2) one))
+        → ys ≡ put 0 (joined (take m (recordsOf d (entries n lent)))) (take (length one - (to + 2)) (drop (to + 2) one))
         → take (to + 2) one ++ (ys ++ drop (length one - (to + 2)) (drop (to + 2) one)) ≡ put to (counted (take m (recordsOf d (inUse s)))) out
     unfolding counted
     counted-back d m to out one ys few room o y =
-        let xs = concat (take m (recordsOf d (entries n lent))) in
+        let xs = joined (take m (recordsOf d (entries n lent))) in
         let count : length (take m (recordsOf d (inUse s))) ≡ m = length-take-le m (recordsOf d (inUse s)) few in
         let size : length xs ≡ recordWidth * m = rw table-lent (told-length d m few) in
         let same : length one ≡ length out = ap length o ∙ put-length to (octets 2 m) out in

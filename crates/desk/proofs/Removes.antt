@@ -6,7 +6,7 @@ use mathlib.Core.List.{List}
 use native.Mathlib.Omega.{arith}
 use lib.Dec.{lit<}
 use lib.ListN.{length, drop}
-use Rattle.octets.specs.Parts.{put, concat}
+use Rattle.octets.specs.Parts.{put, joined}
 use Rattle.octets.proofs.Tests.{and-left, and-right}
 use Rattle.octets.proofs.Puts.{put-length}
 use Rattle.table.specs.Entries.{desks, entries, recordsOf, without, ownersBelow, sharesKept}
@@ -42,8 +42,8 @@ module _ (s : List ℕ) (e : sound s ≡ true) where
       let es = without d k (entries n a) in
       let own : recordsOf d (removed n d k a) ≡ drop k (recordsOf d (inUse s)) = remove-own n d k a (use-fits s e) ∙ ap (λ (l : List (List ℕ)). drop k (recordsOf d l)) (sym (in-use s)) in
       rw (in-use s)
-      (entries-say s e d h (put 0 (concat es) a) (length es) desk′
-      (put-length 0 (concat es) a ∙ area-length s facts 2 (lit< tt))
+      (entries-say s e d h (put 0 (joined es) a) (length es) desk′
+      (put-length 0 (joined es) a ∙ area-length s facts 2 (lit< tt))
       (omega (arith, remove-fewer n d k a (use-fits s e), facts .head .used))
       (table-left d k)
       (λ c b ne. remove-others n d k a (use-fits s e) c ne ∙ ap (recordsOf c) (sym (in-use s)))

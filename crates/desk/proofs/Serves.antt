@@ -10,7 +10,7 @@ use borrow.Author.Tests.{eq-eqb, ne-eqb}
 use Rattle.octets.specs.Tests.{first}
 use Rattle.octets.specs.Parts.{put}
 use Rattle.octets.specs.Areas.{upto}
-use Rattle.octets.proofs.Each.{All}
+use Rattle.octets.specs.Each.{All}
 use Rattle.octets.proofs.Puts.{part-at}
 use Rattle.octets.proofs.Numbers.{number-at}
 use Rattle.table.specs.Entries.{desks}

@@ -3,7 +3,7 @@ use Prim.Native.Nat.{ℕ}
 use mathlib.Core.Path.{_≡_, refl}
 use mathlib.Core.List.{List, [], _∷_}
 use borrow.Author.Tests.{ne-eqb}
-use Rattle.octets.proofs.Each.{All}
+use Rattle.octets.specs.Each.{All}
 use Rattle.rules.specs.declared.Row.{Row}
 use Rattle.rules.specs.declared.Known.the-variants.{Unknown}
 use Rattle.rules.specs.Control.{commands, rowIn, known}

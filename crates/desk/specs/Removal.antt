@@ -2,7 +2,7 @@
 use Prim.Native.Nat.{ℕ}
 use mathlib.Core.List.{List}
 use lib.ListN.{length}
-use Rattle.octets.specs.Parts.{put, concat}
+use Rattle.octets.specs.Parts.{put, joined}
 use Rattle.table.specs.Entries.{without}
 use Rattle.store.specs.Layout.{header, startOf, area, recounted}
 use Rattle.store.specs.View.{inUse}
@@ -11,4 +11,4 @@ use Rattle.store.specs.View.{inUse}
 unfoldable pub removedFrom : ℕ → ℕ → List ℕ → List ℕ
 removedFrom d k s =
     let es = without d k (inUse s) in
-    recounted (length es) (put (startOf (header s) 2) (put 0 (concat es) (area s 2)) s)
+    recounted (length es) (put (startOf (header s) 2) (put 0 (joined es) (area s 2)) s)

@@ -4,7 +4,8 @@ use Prim.Native.Nat.{ℕ, _+_, _≤_}
 use native.Mathlib.Omega.{arith}
 use lib.ListN.{length}
 use lib.Dec.{lit<}
-use Rattle.octets.proofs.Each.{All, Octet, all-append, octets-number, each-octets}
+use Rattle.octets.specs.Each.{All, Octet}
+use Rattle.octets.proofs.Each.{all-append, octets-number, each-octets}
 use Rattle.crc.proofs.Laws.{crc-lt}
 use Rattle.frame.specs.declared.Kind.{Kind}
 use Rattle.frame.specs.declared.Kind.the-variants.{Standard, Advanced}

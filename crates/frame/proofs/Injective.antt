@@ -8,7 +8,7 @@ use Rattle.frame.specs.declared.Way.the-variants.{Request}
 use Rattle.frame.specs.declared.Frame.{Frame}
 use Rattle.frame.specs.Judged.{partsOf, dataOf}
 use Rattle.frame.specs.Sealed.{frameOf}
-use Rattle.frame.proofs.Reading.{madeOf, request-parts, request-data}
+use Rattle.frame.proofs.ReadBack.{madeOf, request-parts, request-data}
 
 pub frame-injective : (k k′ : Kind) (adr adr′ ctl ctl′ : ℕ) (body body′ : List ℕ)
     → frameOf k adr ctl body ≡ frameOf k′ adr′ ctl′ body′

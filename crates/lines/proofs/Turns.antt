@@ -7,10 +7,10 @@ use native.Mathlib.Nat.{mul-suc, mul-le-mul-left, add-zero, mul-comm, div-lt-iff
 use native.Mathlib.Omega.{arith}
 use lib.ListN.{length, take, drop, length-take, length-drop, length-map}
 use lib.Seq.{drop-drop}
-use Rattle.octets.specs.Parts.{part, put, rows, concat}
+use Rattle.octets.specs.Parts.{part, put, rows, joined}
 use Rattle.octets.proofs.Joins.{put-next}
 use Rattle.octets.proofs.Lent.{put-lent}
-use Rattle.octets.proofs.Rows.{Wide, rows-length, rows-wide, rows-snoc, concat-append, concat-one, length-concat}
+use Rattle.octets.proofs.Rows.{Wide, rows-length, rows-wide, rows-snoc, joined-append, joined-one, length-joined}
 use Rattle.table.specs.Entries.{recordWidth}
 use Rattle.rules.specs.Records.{recordsFor}
 use Rattle.rules.specs.Line.{line}
@@ -49,10 +49,10 @@ wide-map w v f h (e ∷ es) p = (h e (p .0), wide-map w v f h es (p .1))
 
 module _ (block sent : List ℕ) where
   unfoldable pub firstLines : ℕ → List ℕ
-  firstLines k = concat (map (line block) (rows k recordWidth (drop 2 sent)))
+  firstLines k = joined (map (line block) (rows k recordWidth (drop 2 sent)))
 
   pub none-first : firstLines 0 ≡ []
-  unfolding firstLines rows concat
+  unfolding firstLines rows joined
   none-first = refl
 
   pub all-first : (m : ℕ) → m ≡ length (recordsIn sent) → firstLines m ≡ linesOf block sent
@@ -64,7 +64,7 @@ module _ (block sent : List ℕ) where
   first-length k h =
       let es = rows k recordWidth (drop 2 sent) in
       let wide : Wide recordWidth es = rows-wide k recordWidth (drop 2 sent) (simp length-drop (records-fit sent k h)) in
-      length-concat (widthOf block) (map (line block) es) (wide-map recordWidth (widthOf block) (line block) (λ e q. line-length block e (omega arith)) es wide)
+      length-joined (widthOf block) (map (line block) es) (wide-map recordWidth (widthOf block) (line block) (λ e q. line-length block e (omega arith)) es wide)
       ∙ ap (λ (n : ℕ). widthOf block * n) (length-map es (line block) ∙ rows-length k recordWidth (drop 2 sent))
 
   pub all-length : (m : ℕ) → m ≡ length (recordsIn sent) → length (linesOf block sent) ≡ widthOf block * m
@@ -72,7 +72,7 @@ module _ (block sent : List ℕ) where
 
   pub first-more : (k : ℕ) → firstLines (k + 1) ≡ firstLines k ++ line block (take recordWidth (drop (2 + recordWidth * k) sent))
   unfolding firstLines part
-  first-more k = rw (add-one k, rows-snoc, map-append, concat-append, concat-one, drop-drop)
+  first-more k = rw (add-one k, rows-snoc, map-append, joined-append, joined-one, drop-drop)
 
   -- a line written into what is left behind the last
   pub line-turn : (k at room wide : ℕ) (ys out out₀ : List ℕ) → k < length (recordsIn sent) → wide ≡ recordWidth → at ≡ widthOf block * k → at + room ≤ length out → widthOf block ≤ room

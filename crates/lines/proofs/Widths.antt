@@ -12,7 +12,7 @@ use Rattle.octets.proofs.Tests.{both, and-right}
 use Rattle.octets.proofs.Puts.{part-length}
 use Rattle.rules.specs.Config.{useLegal, charLegal, lenLegal, shapeLegal, lineLegal}
 use Rattle.hex.proofs.Digits.{hex-length}
-use Rattle.rules.specs.Line.{hex, shown, header, separator, ending, line}
+use Rattle.rules.specs.Line.{hex, shown, heading, separator, ending, line}
 use Rattle.lines.specs.Pieces.{shownWidth, widthOf}
 
 -- the nibbles of LEN-USR in a legal block
@@ -24,9 +24,9 @@ nibbles block e =
     let b = both (leb (n / 16) 4) (leb (n % 16) 3) l in
     (leb-true _ _ (b .0), leb-true _ _ (b .1))
 
-pub header-length : (block : List ℕ) → length block ≡ 14 → lineLegal block ≡ true → length (header block) ≡ getD block 13 0 / 16
-unfolding header
-header-length block l e = part-length 8 (getD block 13 0 / 16) block (omega (arith, nibbles block e .0))
+pub heading-length : (block : List ℕ) → length block ≡ 14 → lineLegal block ≡ true → length (heading block) ≡ getD block 13 0 / 16
+unfolding heading
+heading-length block l e = part-length 8 (getD block 13 0 / 16) block (omega (arith, nibbles block e .0))
 
 pub shown-hex : (dbUse : ℕ) (s : List ℕ) → dbUse ≡ 2 → shown dbUse s ≡ hex s
 unfolding shown
@@ -49,7 +49,7 @@ pub shown-part : (dbUse at n : ℕ) (r : List ℕ) → at + n ≤ length r → l
 shown-part dbUse at n r h = rw (shown-length, part-length at n r h)
 
 module _ (block r : List ℕ) (h : 12 ≤ length r) where
-  pub pieces-length : length (header block) + length (shown (getD block 0 0) (part 0 8 r)) + length (separator block) + length (shown (getD block 0 0) (part 8 4 r)) + length (ending block) ≡ widthOf block
+  pub pieces-length : length (heading block) + length (shown (getD block 0 0) (part 0 8 r)) + length (separator block) + length (shown (getD block 0 0) (part 8 4 r)) + length (ending block) ≡ widthOf block
   unfolding widthOf
   pieces-length = omega (arith, shown-part (getD block 0 0) 0 8 r (omega arith), shown-part (getD block 0 0) 8 4 r (omega arith))
 

@@ -5,7 +5,7 @@ use mathlib.Core.List.{List, [], _∷_, map}
 use lib.ListN.{length, drop}
 use lib.Dec.{ltb}
 use Rattle.octets.specs.Tests.{first}
-use Rattle.octets.specs.Parts.{rows, concat}
+use Rattle.octets.specs.Parts.{rows, joined}
 use Rattle.frame.specs.declared.Refusal.{Refusal}
 use Rattle.frame.specs.declared.Refusal.the-variants.{OutOfRange, NoRoom}
 use Rattle.table.specs.Entries.{recordWidth}
@@ -29,4 +29,4 @@ recordsIn sent = rows (recordsFor (length sent)) recordWidth (drop 2 sent)
 
 -- a line for each, one after the other
 unfoldable pub linesOf : List ℕ → List ℕ → List ℕ
-linesOf block sent = concat (map (line block) (recordsIn sent))
+linesOf block sent = joined (map (line block) (recordsIn sent))

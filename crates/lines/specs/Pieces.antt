@@ -6,7 +6,7 @@ use mathlib.Core.Path.{_≡_}
 use lib.ListN.{length, getD}
 use lib.Dec.{eqb}
 use Rattle.octets.specs.Parts.{part}
-use Rattle.rules.specs.Line.{header, separator, ending}
+use Rattle.rules.specs.Line.{heading, separator, ending}
 use Rattle.lines.specs.declared.pieces.Mark.{Mark}
 
 -- the first len of the three octets are t
@@ -19,6 +19,6 @@ pub record Holds (m : Mark) (t : List ℕ) : Type 0 where
 unfoldable pub shownWidth : ℕ → ℕ
 shownWidth dbUse = cond (eqb dbUse 2) 2 1
 
--- how long each line is: header, UID and timer, separator, end
+-- how long each line is: heading, UID and timer, separator, end
 unfoldable pub widthOf : List ℕ → ℕ
-widthOf block = length (header block) + 12 * shownWidth (getD block 0 0) + length (separator block) + length (ending block)
+widthOf block = length (heading block) + 12 * shownWidth (getD block 0 0) + length (separator block) + length (ending block)

@@ -1,4 +1,4 @@
-// The pieces of a scan line: header, octets as hex or raw, separator, end. Each is written at a place, and the next place is returned.
+// The pieces of a scan line: heading, octets as hex or raw, separator, end. Each is written at a place, and the next place is returned.
 ghost use mathlib.Core.Path.{_≡_};
 ghost use mathlib.Core.Bool.{true};
 ghost use mathlib.Core.List.{[], _∷_};
@@ -6,7 +6,7 @@ ghost use Prim.Native.Nat.{_+_, _*_, _/_, _%_, _≤_, _<_, max};
 ghost use lib.ListN.{length, getD};
 ghost use Rattle.octets.specs.Parts.{part, put};
 ghost use Rattle.rules.specs.Config.{lineLegal};
-ghost use Rattle.rules.specs.Line.{shown, header, markOf, separator, ending, line};
+ghost use Rattle.rules.specs.Line.{shown, heading, markOf, separator, ending, line};
 ghost use Rattle.lines.specs.Pieces.{Holds, shownWidth, widthOf};
 
 const TAB: u8 = 0x07;
@@ -89,10 +89,10 @@ fn shown_width(usage: u8) -> usize
     if usage == 2 { 2 } else { 1 }
 }
 
-// How long the header is: the high nibble of LEN-USR.
-fn header_len(block: &[u8]) -> usize
+// How long the heading is: the high nibble of LEN-USR.
+fn heading_len(block: &[u8]) -> usize
     requires { ⌜ (length (now block) ≡ 14) × (lineLegal (now block) ≡ true) ⌝ }
-    ensures { λ r. ⌜ (r ≡ length (header (now (block .entry)))) × (r ≡ getD (now (block .entry)) 13 0 / 16) × (r ≤ 4) ⌝ }
+    ensures { λ r. ⌜ (r ≡ length (heading (now (block .entry)))) × (r ≡ getD (now (block .entry)) 13 0 / 16) × (r ≤ 4) ⌝ }
 {
     (block[13] / 16) as usize
 }
@@ -104,15 +104,15 @@ pub fn width(block: &[u8]) -> usize
 {
     // UID and timer have twelve octets.
     let shown = 12 * shown_width(block[0]);
-    header_len(block) + shown + separator_of(block).len + ending_of(block).len
+    heading_len(block) + shown + separator_of(block).len + ending_of(block).len
 }
 
-// Writes the header.
-fn put_header(block: &[u8], out: &mut [u8], at: usize) -> usize
-    requires { ⌜ (length (now block) ≡ 14) × (lineLegal (now block) ≡ true) × (at + length (header (now block)) ≤ length (now out)) ⌝ }
-    ensures { λ r. ⌜ (r ≡ at + length (header (now (block .entry)))) × (now (out .exit) ≡ put at (header (now (block .entry))) (now (out .entry))) ⌝ }
+// Writes the heading.
+fn put_heading(block: &[u8], out: &mut [u8], at: usize) -> usize
+    requires { ⌜ (length (now block) ≡ 14) × (lineLegal (now block) ≡ true) × (at + length (heading (now block)) ≤ length (now out)) ⌝ }
+    ensures { λ r. ⌜ (r ≡ at + length (heading (now (block .entry)))) × (now (out .exit) ≡ put at (heading (now (block .entry))) (now (out .entry))) ⌝ }
 {
-    let n = header_len(block);
+    let n = heading_len(block);
     octets::copy_to(out, at, &block[8..8 + n]);
     at + n
 }
@@ -147,7 +147,7 @@ pub fn put_line(block: &[u8], sighted: &[u8], out: &mut [u8]) -> usize
     ensures { λ r. ⌜ (r ≡ widthOf (now (block .entry))) × (now (out .exit) ≡ put 0 (line (now (block .entry)) (now (sighted .entry))) (now (out .entry))) ⌝ }
 {
     let usage = block[0];
-    let uid = put_header(block, out, 0);
+    let uid = put_heading(block, out, 0);
     let sep = put_shown(usage, &sighted[..8], out, uid);
     let timer = put_mark(separator_of(block), out, sep);
     let end = put_shown(usage, &sighted[8..12], out, timer);

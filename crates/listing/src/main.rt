@@ -3,14 +3,14 @@
 use libc::STDIN_FILENO;
 use libc::STDOUT_FILENO;
 use rules::Written;
+use text::Begun;
 use text::LONGEST;
-use text::Reading;
 ghost use Prim.Native.Nat.{_≤_};
 ghost use lib.ListN.{length};
 
 // What is carried from octet to octet: the line that is being read, how many octets wait to be printed, and whether input may follow.
 struct Progress {
-    line: Reading,
+    line: Begun,
     waiting: usize,
     more: bool,
 }

@@ -8,9 +8,9 @@ use native.Mathlib.Omega.{arith}
 use borrow.Author.Tests.{eq-eqb, ne-eqb}
 use lib.ListN.{length, take, drop, getD, drop-of-length-le}
 use lib.Seq.{drop-cons, length-take-le, getD-take}
-use Rattle.octets.specs.Tests.{all}
+use Rattle.octets.specs.Tests.{allOf}
 use Rattle.locks.specs.declared.Lock.{Lock}
-use Rattle.locks.specs.Locks.{locked, distinct, lookupFrom}
+use Rattle.locks.specs.Locks.{locked, distinct, foundFrom}
 use Rattle.locks.proofs.Lookups.{locked-cons}
 
 module _ (a : List Lock) (n : ℕ) (d : Lock) (within : n ≤ length a) where
@@ -21,12 +21,12 @@ module _ (a : List Lock) (n : ℕ) (d : Lock) (within : n ≤ length a) where
 
   -- a test of each
   module _ (f : Lock → Bool) (i : ℕ) (h : i < n) where
-    pub each-fails : f (getD a i d) ≡ false → all f (drop i (take n a)) ≡ false
-    unfolding all
+    pub each-fails : f (getD a i d) ≡ false → allOf f (drop i (take n a)) ≡ false
+    unfolding allOf
     each-fails e = rw (next i h, e)
 
-    pub each-holds : f (getD a i d) ≡ true → all f (drop i (take n a)) ≡ all f (drop (i + 1) (take n a))
-    unfolding all
+    pub each-holds : f (getD a i d) ≡ true → allOf f (drop i (take n a)) ≡ allOf f (drop (i + 1) (take n a))
+    unfolding allOf
     each-holds e = rw (next i h, e)
 
   -- a UID among those from i on
@@ -52,12 +52,12 @@ module _ (a : List Lock) (n : ℕ) (d : Lock) (within : n ≤ length a) where
   none : (i : ℕ) → n ≤ i → drop i (take n a) ≡ []
   none i h = let l : length (take n a) ≡ n = length-take-le n a within in drop-of-length-le (take n a) {i = i} (omega arith)
 
-  pub each-end : (f : Lock → Bool) (i : ℕ) → n ≤ i → all f (drop i (take n a)) ≡ true
-  unfolding all
+  pub each-end : (f : Lock → Bool) (i : ℕ) → n ≤ i → allOf f (drop i (take n a)) ≡ true
+  unfolding allOf
   each-end f i h = rw (none i h)
 
   pub stands-end : (uid i : ℕ) → n ≤ i → locked uid (drop i (take n a)) ≡ false
-  unfolding lookupFrom
+  unfolding foundFrom
   stands-end uid i h = ap (locked uid) (none i h)
 
   pub distinct-end : (i : ℕ) → n ≤ i → distinct (drop i (take n a)) ≡ true

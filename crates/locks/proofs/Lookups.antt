@@ -1,4 +1,4 @@
--- Laws of `lookup` and `locked`: what one more lock makes of each, and who is not locked. Assumes nothing.
+-- Laws of `foundIn` and `locked`: what one more lock makes of each, and who is not locked. Assumes nothing.
 use mathlib.Core.Path.{_≡_, refl, sym, _∙_, ap}
 use mathlib.Core.Bool.{Bool, true, false, cond, _||_}
 use mathlib.Core.List.{List, [], _∷_}
@@ -9,46 +9,46 @@ use lib.ListN.{length, drop, getD, drop-of-length-le}
 use lib.Seq.{drop-cons}
 use Rattle.locks.specs.declared.Lock.{Lock}
 use Rattle.locks.specs.declared.Found.the-variants.{At, Nothing}
-use Rattle.locks.specs.Locks.{lookupFrom, isFound, locked}
+use Rattle.locks.specs.Locks.{foundFrom, isFound, locked}
 
 -- ---- a search, lock by lock
 
-pub lookup-cons : (k uid : ℕ) (l : Lock) (ls : List Lock) → lookupFrom k uid (l ∷ ls) ≡ cond (eqb (l .uid) uid) (At k (l .left)) (lookupFrom (k + 1) uid ls)
-unfolding lookupFrom
+pub lookup-cons : (k uid : ℕ) (l : Lock) (ls : List Lock) → foundFrom k uid (l ∷ ls) ≡ cond (eqb (l .uid) uid) (At k (l .left)) (foundFrom (k + 1) uid ls)
+unfolding foundFrom
 lookup-cons k uid l ls = refl
 
 module _ (ls : List Lock) (i uid : ℕ) (d : Lock) (h : i < length ls) where
-  find-next : lookupFrom i uid (drop i ls) ≡ cond (eqb (getD ls i d .uid) uid) (At i (getD ls i d .left)) (lookupFrom (i + 1) uid (drop (i + 1) ls))
+  find-next : foundFrom i uid (drop i ls) ≡ cond (eqb (getD ls i d .uid) uid) (At i (getD ls i d .left)) (foundFrom (i + 1) uid (drop (i + 1) ls))
   find-next =
-      ap (lookupFrom i uid) (drop-cons ls i d h)
+      ap (foundFrom i uid) (drop-cons ls i d h)
       ∙ lookup-cons i uid (getD ls i d) (drop (suc i) ls)
-      ∙ ap (λ (k : ℕ). cond (eqb (getD ls i d .uid) uid) (At i (getD ls i d .left)) (lookupFrom (i + 1) uid (drop k ls))) (sym (add-one i))
+      ∙ ap (λ (k : ℕ). cond (eqb (getD ls i d .uid) uid) (At i (getD ls i d .left)) (foundFrom (i + 1) uid (drop k ls))) (sym (add-one i))
 
-  pub find-here : eqb (getD ls i d .uid) uid ≡ true → lookupFrom i uid (drop i ls) ≡ At i (getD ls i d .left)
-  find-here e = find-next ∙ ap (λ (t : Bool). cond t (At i (getD ls i d .left)) (lookupFrom (i + 1) uid (drop (i + 1) ls))) e
+  pub find-here : eqb (getD ls i d .uid) uid ≡ true → foundFrom i uid (drop i ls) ≡ At i (getD ls i d .left)
+  find-here e = find-next ∙ ap (λ (t : Bool). cond t (At i (getD ls i d .left)) (foundFrom (i + 1) uid (drop (i + 1) ls))) e
 
-  pub find-later : eqb (getD ls i d .uid) uid ≡ false → lookupFrom i uid (drop i ls) ≡ lookupFrom (i + 1) uid (drop (i + 1) ls)
-  find-later e = find-next ∙ ap (λ (t : Bool). cond t (At i (getD ls i d .left)) (lookupFrom (i + 1) uid (drop (i + 1) ls))) e
+  pub find-later : eqb (getD ls i d .uid) uid ≡ false → foundFrom i uid (drop i ls) ≡ foundFrom (i + 1) uid (drop (i + 1) ls)
+  find-later e = find-next ∙ ap (λ (t : Bool). cond t (At i (getD ls i d .left)) (foundFrom (i + 1) uid (drop (i + 1) ls))) e
 
-pub find-none : (ls : List Lock) (i uid : ℕ) → length ls ≤ i → lookupFrom i uid (drop i ls) ≡ Nothing
-unfolding lookupFrom
-find-none ls i uid h = ap (lookupFrom i uid) (drop-of-length-le ls h)
+pub find-none : (ls : List Lock) (i uid : ℕ) → length ls ≤ i → foundFrom i uid (drop i ls) ≡ Nothing
+unfolding foundFrom
+find-none ls i uid h = ap (foundFrom i uid) (drop-of-length-le ls h)
 
 -- ---- whether a UID is locked
 
-found-from : (k j uid : ℕ) (ls : List Lock) → isFound (lookupFrom k uid ls) ≡ isFound (lookupFrom j uid ls)
-unfolding lookupFrom
+found-from : (k j uid : ℕ) (ls : List Lock) → isFound (foundFrom k uid ls) ≡ isFound (foundFrom j uid ls)
+unfolding foundFrom
 found-from k j uid [] = refl
 found-from k j uid (l ∷ ls) = rw (lookup-cons k uid l ls, lookup-cons j uid l ls) (go (eqb (l .uid) uid) (found-from (k + 1) (j + 1) uid ls))
   where
-    go : (b : Bool) → isFound (lookupFrom (k + 1) uid ls) ≡ isFound (lookupFrom (j + 1) uid ls)
-        → isFound (cond b (At k (l .left)) (lookupFrom (k + 1) uid ls)) ≡ isFound (cond b (At j (l .left)) (lookupFrom (j + 1) uid ls))
+    go : (b : Bool) → isFound (foundFrom (k + 1) uid ls) ≡ isFound (foundFrom (j + 1) uid ls)
+        → isFound (cond b (At k (l .left)) (foundFrom (k + 1) uid ls)) ≡ isFound (cond b (At j (l .left)) (foundFrom (j + 1) uid ls))
     go true e = refl
     go false e = e
 
 pub locked-cons : (uid : ℕ) (l : Lock) (ls : List Lock) → locked uid (l ∷ ls) ≡ (eqb (l .uid) uid || locked uid ls)
 locked-cons uid l ls = rw lookup-cons (go (eqb (l .uid) uid))
   where
-    go : (b : Bool) → isFound (cond b (At 0 (l .left)) (lookupFrom (0 + 1) uid ls)) ≡ (b || locked uid ls)
+    go : (b : Bool) → isFound (cond b (At 0 (l .left)) (foundFrom (0 + 1) uid ls)) ≡ (b || locked uid ls)
     go true = refl
     go false = found-from (0 + 1) 0 uid ls

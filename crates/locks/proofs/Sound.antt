@@ -7,13 +7,14 @@ use native.Mathlib.Omega.{arith}
 use lib.Dec.{eqb, ltb, leb, lit<}
 use borrow.Author.Tests.{ltb-true, leb-true, eqb-false, le-leb, ne-eqb, not-true}
 use lib.ListN.{length, drop, length-append, length-drop}
-use Rattle.octets.specs.Tests.{all}
+use Rattle.octets.specs.Tests.{allOf}
 use Rattle.octets.specs.Parts.{put}
 use Rattle.octets.specs.Numbers.{Octets}
 use Rattle.octets.proofs.Tests.{both, and-left, and-right, and-both, or-left, or-right}
-use Rattle.octets.proofs.Each.{All, all-facts, all-test, all-append, all-drop}
+use Rattle.octets.specs.Each.{All}
+use Rattle.octets.proofs.Each.{all-facts, all-test, all-append, all-drop}
 use Rattle.locks.specs.declared.Lock.{Lock}
-use Rattle.locks.specs.Locks.{aged, sweptOf, lookupFrom, locked, mostLocks, madeRoom, added, lockLegal, distinct, locksLegal, lockWidth, locksIn, locksOctets}
+use Rattle.locks.specs.Locks.{aged, sweptOf, foundFrom, locked, mostLocks, madeRoom, added, lockLegal, distinct, locksLegal, lockWidth, locksIn, locksOctets}
 use Rattle.locks.proofs.Lookups.{locked-cons}
 use Rattle.locks.proofs.Sweeps.{swept-length}
 use Rattle.locks.proofs.Stored.{LockFits, locks-in-length, locks-in-fit, locks-put}
@@ -76,11 +77,11 @@ module _ (valid : ℕ) (ls : List Lock) where
       simp (le-leb (length ls) mostLocks (p .few), all-test (lockLegal valid) (LockLegal valid) (lock-test valid) ls (p .each), distinct-test ls (p .distinct))
 
   -- one test after the other, as the code runs them
-  pub legal-fails : length ls ≤ mostLocks → all (lockLegal valid) ls ≡ false → locksLegal valid ls ≡ false
+  pub legal-fails : length ls ≤ mostLocks → allOf (lockLegal valid) ls ≡ false → locksLegal valid ls ≡ false
   unfolding locksLegal
   legal-fails h e = rw (le-leb (length ls) mostLocks h, e)
 
-  pub legal-distinct : length ls ≤ mostLocks → all (lockLegal valid) ls ≡ true → locksLegal valid ls ≡ distinct ls
+  pub legal-distinct : length ls ≤ mostLocks → allOf (lockLegal valid) ls ≡ true → locksLegal valid ls ≡ distinct ls
   unfolding locksLegal
   legal-distinct h e = rw (le-leb (length ls) mostLocks h, e)
 
@@ -140,7 +141,7 @@ swept-fit = swept-all LockFits (λ l h q. record { uid = q .uid; left = omega (a
 -- ---- a new lock
 
 append-unlocked : (uid : ℕ) (ls : List Lock) (l : Lock) → locked uid ls ≡ false → eqb (l .uid) uid ≡ false → locked uid (ls ++ (l ∷ [])) ≡ false
-unfolding lookupFrom
+unfolding foundFrom
 append-unlocked uid [] l p q = unlocked-cons uid l [] q p
 append-unlocked uid (k ∷ ls) l p q =
     unlocked-cons uid k (ls ++ (l ∷ [])) (unlocked-head uid k ls p) (append-unlocked uid ls l (unlocked-tail uid k ls p) q)

@@ -8,12 +8,12 @@ use lib.Dec.{lit<}
 use native.Mathlib.Omega.{arith}
 use lib.ListN.{length, take, drop, set, getD, length-append, length-map}
 use lib.Seq.{take-suc, take-suc-set, length-take-le, take-at, drop-at, take-all, take-add}
-use Rattle.octets.specs.Parts.{part, put, rows, concat}
+use Rattle.octets.specs.Parts.{part, put, rows, joined}
 use Rattle.octets.specs.Numbers.{number, octets, u16At, Octets}
 use Rattle.octets.proofs.Puts.{part-length, part-part, put-part, put-append}
-use Rattle.octets.proofs.Rows.{Wide, rows-length, rows-snoc, rows-wide, rows-octets, concat-append, concat-one, concat-rows, length-concat, rows-concat}
+use Rattle.octets.proofs.Rows.{Wide, rows-length, rows-snoc, rows-wide, rows-octets, joined-append, joined-one, joined-rows, length-joined, rows-joined}
 use Rattle.octets.proofs.Numbers.{octets-length, u16At-part, octets-number, octets-part, number-octets, number-lt}
-use Rattle.octets.proofs.Each.{All}
+use Rattle.octets.specs.Each.{All}
 use Rattle.locks.specs.declared.Lock.{Lock}
 use Rattle.locks.specs.Locks.{lockWidth, lockOctets, lockFrom, locksIn, locksOctets}
 
@@ -30,7 +30,7 @@ octets-wide (l ∷ ls) = (lock-octets-length l, octets-wide ls)
 
 pub locks-octets-length : (ls : List Lock) → length (locksOctets ls) ≡ lockWidth * length ls
 unfolding locksOctets
-locks-octets-length ls = length-concat lockWidth (map lockOctets ls) (octets-wide ls) ∙ ap (λ (n : ℕ). lockWidth * n) (length-map ls lockOctets)
+locks-octets-length ls = length-joined lockWidth (map lockOctets ls) (octets-wide ls) ∙ ap (λ (n : ℕ). lockWidth * n) (length-map ls lockOctets)
 
 pub locks-in-length : (n : ℕ) (p : List ℕ) → length (locksIn n p) ≡ n
 unfolding locksIn
@@ -56,11 +56,11 @@ put-lock at l p =
 
 pub octets-append : (xs ys : List Lock) → locksOctets (xs ++ ys) ≡ locksOctets xs ++ locksOctets ys
 unfolding locksOctets
-octets-append xs ys = ap concat (map-append lockOctets xs ys) ∙ concat-append (map lockOctets xs) (map lockOctets ys)
+octets-append xs ys = ap joined (map-append lockOctets xs ys) ∙ joined-append (map lockOctets xs) (map lockOctets ys)
 
 pub octets-snoc : (ls : List Lock) (l : Lock) → locksOctets (ls ++ (l ∷ [])) ≡ locksOctets ls ++ lockOctets l
 unfolding locksOctets
-octets-snoc ls l = octets-append ls (l ∷ []) ∙ ap (λ (r : List ℕ). locksOctets ls ++ r) (concat-one (lockOctets l))
+octets-snoc ls l = octets-append ls (l ∷ []) ∙ ap (λ (r : List ℕ). locksOctets ls ++ r) (joined-one (lockOctets l))
 
 -- a lock is written behind the others
 pub put-snoc : (ls : List Lock) (l : Lock) (p : List ℕ) → put 0 (locksOctets (ls ++ (l ∷ []))) p ≡ put (lockWidth * length ls) (lockOctets l) (put 0 (locksOctets ls) p)
@@ -87,7 +87,7 @@ loaded-more a i l p h e k = rw (locks-in-snoc, add-one, take-suc-set a i l h, e,
 
 -- a turn of a loop that writes the locks of a list
 pub saved-none : (a : List Lock) (p : List ℕ) → p ≡ put 0 (locksOctets (take 0 a)) p
-unfolding locksOctets concat put
+unfolding locksOctets joined put
 saved-none a p = refl
 
 pub saved-more : (a : List Lock) (i : ℕ) (d : Lock) (p : List ℕ) → i < length a → put (lockWidth * i) (lockOctets (getD a i d)) (put 0 (locksOctets (take i a)) p) ≡ put 0 (locksOctets (take (i + 1) a)) p
@@ -117,8 +117,8 @@ octets-rows (r ∷ rs) w h = ap₂ _∷_ (octets-lock r (w .0) (h .0)) (octets-r
 pub octets-locks-in : (n : ℕ) (p : List ℕ) → Octets p → lockWidth * n ≤ length p → locksOctets (locksIn n p) ≡ take (lockWidth * n) p
 unfolding locksOctets locksIn
 octets-locks-in n p h l =
-    ap concat (octets-rows (rows n lockWidth p) (rows-wide n lockWidth p l) (rows-octets n lockWidth p h))
-    ∙ concat-rows n lockWidth p
+    ap joined (octets-rows (rows n lockWidth p) (rows-wide n lockWidth p l) (rows-octets n lockWidth p h))
+    ∙ joined-rows n lockWidth p
 
 -- written where they were read, they change nothing
 pub put-locks-in : (n : ℕ) (p : List ℕ) → Octets p → lockWidth * n ≤ length p → put 0 (locksOctets (locksIn n p)) p ≡ p
@@ -150,8 +150,8 @@ pub locks-put : (ls : List Lock) (p : List ℕ) → All LockFits ls → lockWidt
 unfolding locksIn locksOctets
 locks-put ls p f h =
     let e : length (map lockOctets ls) ≡ length ls = length-map ls lockOctets in
-    ap (λ (n : ℕ). map lockFrom (rows n lockWidth (put 0 (concat (map lockOctets ls)) p))) (sym e)
-    ∙ ap (map lockFrom) (rows-concat lockWidth (map lockOctets ls) p (octets-wide ls) (rw e h))
+    ap (λ (n : ℕ). map lockFrom (rows n lockWidth (put 0 (joined (map lockOctets ls)) p))) (sym e)
+    ∙ ap (map lockFrom) (rows-joined lockWidth (map lockOctets ls) p (octets-wide ls) (rw e h))
     ∙ locks-rows ls f
 
 -- ---- numbers that fit

@@ -4,8 +4,8 @@ use mathlib.Core.Bool.{Bool, true, false, cond, not, _&&_}
 use mathlib.Core.List.{List, [], _∷_, _++_, map}
 use lib.Dec.{ltb, leb, eqb}
 use lib.ListN.{length, take, drop}
-use Rattle.octets.specs.Tests.{all}
-use Rattle.octets.specs.Parts.{part, rows, concat}
+use Rattle.octets.specs.Tests.{allOf}
+use Rattle.octets.specs.Parts.{part, rows, joined}
 use Rattle.octets.specs.Numbers.{number, octets, u16At}
 use Rattle.locks.specs.declared.Lock.{Lock}
 use Rattle.locks.specs.declared.Found.{Found}
@@ -29,12 +29,12 @@ sweepOf n ls = sweptOf (take n ls) ++ drop (length (sweptOf (take n ls))) ls
 -- ---- a search
 
 -- the first lock with that UID: its place, counted from k, and the ticks that it has left
-unfoldable pub lookupFrom : ℕ → ℕ → List Lock → Found
-lookupFrom k uid [] = Nothing
-lookupFrom k uid (l ∷ ls) = cond (eqb (l .uid) uid) (At k (l .left)) (lookupFrom (k + 1) uid ls)
+unfoldable pub foundFrom : ℕ → ℕ → List Lock → Found
+foundFrom k uid [] = Nothing
+foundFrom k uid (l ∷ ls) = cond (eqb (l .uid) uid) (At k (l .left)) (foundFrom (k + 1) uid ls)
 
-abbrev pub lookup : ℕ → List Lock → Found
-lookup uid ls = lookupFrom 0 uid ls
+abbrev pub foundIn : ℕ → List Lock → Found
+foundIn uid ls = foundFrom 0 uid ls
 
 abbrev pub isFound : Found → Bool
 isFound (At k left) = true
@@ -42,7 +42,7 @@ isFound Nothing = false
 
 -- a lock with that UID stands
 abbrev pub locked : ℕ → List Lock → Bool
-locked uid ls = isFound (lookup uid ls)
+locked uid ls = isFound (foundIn uid ls)
 
 -- ---- a new lock
 
@@ -69,7 +69,7 @@ distinct [] = true
 distinct (l ∷ ls) = not (locked (l .uid) ls) && distinct ls
 
 unfoldable pub locksLegal : ℕ → List Lock → Bool
-locksLegal valid ls = leb (length ls) mostLocks && all (lockLegal valid) ls && distinct ls
+locksLegal valid ls = leb (length ls) mostLocks && allOf (lockLegal valid) ls && distinct ls
 
 -- ---- in the store
 
@@ -90,4 +90,4 @@ locksIn n p = map lockFrom (rows n lockWidth p)
 
 -- locks one after the other, as octets
 unfoldable pub locksOctets : List Lock → List ℕ
-locksOctets ls = concat (map lockOctets ls)
+locksOctets ls = joined (map lockOctets ls)

@@ -7,14 +7,11 @@ use mathlib.Core.Option.{none, some, Option·none-ne-some, Option·some-injectiv
 use mathlib.Core.List.{List, [], _∷_, _++_, map}
 use lib.ListN.{getD, set, take, drop, replicate}
 use lib.Dec.{lit<}
-use Rattle.octets.specs.Tests.{first, all}
+use Rattle.octets.specs.Tests.{first, allOf}
+use Rattle.octets.specs.Each.{All, Octet}
 use Rattle.octets.specs.Parts.{part, put}
 use Rattle.octets.specs.Numbers.{octets, Octets}
 use Rattle.octets.proofs.Tests.{and-left, and-right, and-both}
-
-abbrev pub All : {A : Type 0} → (A → Type 0) → List A → Type 0
-All P [] = Unit {0}
-All P (x ∷ xs) = P x × All P xs
 
 -- tests in order, each with what it gives: what was given follows a rule that all follow
 pub given-each : {A : Type 0} (P : A → Type 0) (ts : List (A × Bool)) (x : A) → All (λ (t : A × Bool). P (t .0)) ts → first ts ≡ some x → P x
@@ -28,15 +25,15 @@ given-each P (t ∷ ts) x p e = go (t .1) e (given-each P ts x (p .1))
 
 -- ---- the test of each element, and the rule
 
-pub all-facts : {A : Type 0} (f : A → Bool) (P : A → Type 0) → ((x : A) → f x ≡ true → P x) → (xs : List A) → all f xs ≡ true → All P xs
-unfolding all
+pub all-facts : {A : Type 0} (f : A → Bool) (P : A → Type 0) → ((x : A) → f x ≡ true → P x) → (xs : List A) → allOf f xs ≡ true → All P xs
+unfolding allOf
 all-facts f P h [] e = tt
-all-facts f P h (x ∷ xs) e = (h x (and-left (f x) (all f xs) e), all-facts f P h xs (and-right (f x) (all f xs) e))
+all-facts f P h (x ∷ xs) e = (h x (and-left (f x) (allOf f xs) e), all-facts f P h xs (and-right (f x) (allOf f xs) e))
 
-pub all-test : {A : Type 0} (f : A → Bool) (P : A → Type 0) → ((x : A) → P x → f x ≡ true) → (xs : List A) → All P xs → all f xs ≡ true
-unfolding all
+pub all-test : {A : Type 0} (f : A → Bool) (P : A → Type 0) → ((x : A) → P x → f x ≡ true) → (xs : List A) → All P xs → allOf f xs ≡ true
+unfolding allOf
 all-test f P h [] p = refl
-all-test f P h (x ∷ xs) p = and-both (f x) (all f xs) (h x (p .0)) (all-test f P h xs (p .1))
+all-test f P h (x ∷ xs) p = and-both (f x) (allOf f xs) (h x (p .0)) (all-test f P h xs (p .1))
 
 -- ---- parts of a list, and changes
 
@@ -74,9 +71,6 @@ module _ {A : Type 0} (P : A → Type 0) where
   all-replicate (suc n) x p = (p, all-replicate n x p)
 
 -- ---- octets
-
-abbrev pub Octet : ℕ → Type 0
-Octet n = n < 256
 
 pub octets-part : (at n : ℕ) (s : List ℕ) → All Octet s → All Octet (part at n s)
 unfolding part

@@ -7,9 +7,9 @@ use native.Mathlib.Nat.{suc-mul, mul-zero, mul-suc, add-comm, zero-add}
 use native.Mathlib.Omega.{arith}
 use lib.ListN.{length, take, drop, set, getD, length-drop, length-append}
 use lib.Seq.{drop-drop, length-take-le, take-add, take-at, drop-at, getD-drop}
-use Rattle.octets.specs.Parts.{part, put, rows, concat}
+use Rattle.octets.specs.Parts.{part, put, rows, joined}
 use Rattle.octets.specs.Numbers.{Octets}
-use Rattle.octets.proofs.Each.{All}
+use Rattle.octets.specs.Each.{All}
 use Rattle.octets.proofs.Numbers.{octets-part}
 use Rattle.octets.proofs.Puts.{take-put, drop-put-after, take-put-before, drop-put, put-front, put-append, part-put-same}
 
@@ -69,43 +69,43 @@ rows-wide (suc m) n s h =
 
 -- ---- put together
 
-pub concat-append : (es fs : List (List ℕ)) → concat (es ++ fs) ≡ concat es ++ concat fs
-unfolding concat
-concat-append [] fs = refl
-concat-append (e ∷ es) fs = rw (concat-append es fs) (sym (append-assoc e (concat es) (concat fs)))
+pub joined-append : (es fs : List (List ℕ)) → joined (es ++ fs) ≡ joined es ++ joined fs
+unfolding joined
+joined-append [] fs = refl
+joined-append (e ∷ es) fs = rw (joined-append es fs) (sym (append-assoc e (joined es) (joined fs)))
 
-pub concat-one : (e : List ℕ) → concat (e ∷ []) ≡ e
-unfolding concat
-concat-one e = append-nil e
+pub joined-one : (e : List ℕ) → joined (e ∷ []) ≡ e
+unfolding joined
+joined-one e = append-nil e
 
-pub length-concat : (w : ℕ) (es : List (List ℕ)) → Wide w es → length (concat es) ≡ w * length es
-unfolding concat Wide
-length-concat w [] h = sym (mul-zero w)
-length-concat w (e ∷ es) h =
-    rw (length-append, length-concat w es (h .1), h .0, mul-suc) (add-comm w (w * length es))
+pub length-joined : (w : ℕ) (es : List (List ℕ)) → Wide w es → length (joined es) ≡ w * length es
+unfolding joined Wide
+length-joined w [] h = sym (mul-zero w)
+length-joined w (e ∷ es) h =
+    rw (length-append, length-joined w es (h .1), h .0, mul-suc) (add-comm w (w * length es))
 
-pub concat-rows : (m n : ℕ) (s : List ℕ) → concat (rows m n s) ≡ take (n * m) s
-unfolding rows concat
-concat-rows zero n s = rw mul-zero
-concat-rows (suc m) n s = rw (concat-rows m n (drop n s), mul-suc, add-comm (n * m) n, take-add)
+pub joined-rows : (m n : ℕ) (s : List ℕ) → joined (rows m n s) ≡ take (n * m) s
+unfolding rows joined
+joined-rows zero n s = rw mul-zero
+joined-rows (suc m) n s = rw (joined-rows m n (drop n s), mul-suc, add-comm (n * m) n, take-add)
 
 -- what is put together is cut into the same rows, whatever lies behind
-rows-concat-then : (w : ℕ) (es : List (List ℕ)) (rest : List ℕ) → Wide w es → rows (length es) w (concat es ++ rest) ≡ es
-unfolding rows concat Wide
-rows-concat-then w [] rest h = refl
-rows-concat-then w (e ∷ es) rest h =
-    rw (append-assoc, take-at e (concat es ++ rest) w (h .0), drop-at e (concat es ++ rest) w (h .0))
-    (ap (λ (r : List (List ℕ)). e ∷ r) (rows-concat-then w es rest (h .1)))
+rows-joined-then : (w : ℕ) (es : List (List ℕ)) (rest : List ℕ) → Wide w es → rows (length es) w (joined es ++ rest) ≡ es
+unfolding rows joined Wide
+rows-joined-then w [] rest h = refl
+rows-joined-then w (e ∷ es) rest h =
+    rw (append-assoc, take-at e (joined es ++ rest) w (h .0), drop-at e (joined es ++ rest) w (h .0))
+    (ap (λ (r : List (List ℕ)). e ∷ r) (rows-joined-then w es rest (h .1)))
 
-pub rows-concat : (w : ℕ) (es : List (List ℕ)) (s : List ℕ) → Wide w es → w * length es ≤ length s → rows (length es) w (put 0 (concat es) s) ≡ es
-rows-concat w es s h l =
-    let n : length (concat es) ≡ w * length es = length-concat w es h in
-    ap (rows (length es) w) (put-front (concat es) s (omega arith)) ∙ rows-concat-then w es (drop (length (concat es)) s) h
+pub rows-joined : (w : ℕ) (es : List (List ℕ)) (s : List ℕ) → Wide w es → w * length es ≤ length s → rows (length es) w (put 0 (joined es) s) ≡ es
+rows-joined w es s h l =
+    let n : length (joined es) ≡ w * length es = length-joined w es h in
+    ap (rows (length es) w) (put-front (joined es) s (omega arith)) ∙ rows-joined-then w es (drop (length (joined es)) s) h
 
 -- rows put behind rows
-pub put-concat : (w : ℕ) (es fs : List (List ℕ)) (s : List ℕ) → Wide w es
-    → put (w * length es) (concat fs) (put 0 (concat es) s) ≡ put 0 (concat (es ++ fs)) s
-put-concat w es fs s h = sym (rw (concat-append, put-append, length-concat w es h, zero-add))
+pub put-joined : (w : ℕ) (es fs : List (List ℕ)) (s : List ℕ) → Wide w es
+    → put (w * length es) (joined fs) (put 0 (joined es) s) ≡ put 0 (joined (es ++ fs)) s
+put-joined w es fs s h = sym (rw (joined-append, put-append, length-joined w es h, zero-add))
 
 -- ---- one row more
 

@@ -1,4 +1,5 @@
 pub mod Tests
+pub mod Each
 pub mod Parts
 pub mod Numbers
 pub mod Areas

@@ -33,6 +33,6 @@ rows zero n s = []
 rows (suc m) n s = take n s ∷ rows m n (drop n s)
 
 -- one after the other
-unfoldable pub concat : List (List ℕ) → List ℕ
-concat [] = []
-concat (e ∷ es) = e ++ concat es
+unfoldable pub joined : List (List ℕ) → List ℕ
+joined [] = []
+joined (e ∷ es) = e ++ joined es

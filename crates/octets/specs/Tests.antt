@@ -19,6 +19,6 @@ every zero f = true
 every (suc k) f = f k && every k f
 
 -- f holds of each element
-unfoldable pub all : {A : Type 0} → (A → Bool) → List A → Bool
-all f [] = true
-all f (x ∷ xs) = f x && all f xs
+unfoldable pub allOf : {A : Type 0} → (A → Bool) → List A → Bool
+allOf f [] = true
+allOf f (x ∷ xs) = f x && allOf f xs

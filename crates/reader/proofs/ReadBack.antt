@@ -21,7 +21,7 @@ use Rattle.frame.specs.declared.Frame.{Frame}
 use Rattle.frame.specs.Shape.{shapeOf, overhead}
 use Rattle.frame.specs.Judged.{faults, partsOf, dataOf}
 use Rattle.frame.specs.Sealed.{frameOf}
-use Rattle.frame.proofs.Reading.{madeOf, reply-back, reply-parts, reply-data, status-back}
+use Rattle.frame.proofs.ReadBack.{madeOf, reply-back, reply-parts, reply-data, status-back}
 use Rattle.frame.proofs.Verdict.{sound-first}
 use Rattle.table.specs.Entries.{recordWidth}
 use Rattle.rules.specs.declared.Command.the-variants as command

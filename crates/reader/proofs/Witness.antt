@@ -14,7 +14,8 @@ use Rattle.octets.specs.Tests.{first}
 use Rattle.octets.proofs.Puts.{put-length, part-put-away, part-put-same}
 use Rattle.octets.proofs.Numbers.{octets-length}
 use Rattle.octets.proofs.Alike.{alike-refl, alike-ne}
-use Rattle.octets.proofs.Each.{all-replicate, octets-put, octets-number, Octet}
+use Rattle.octets.specs.Each.{Octet}
+use Rattle.octets.proofs.Each.{all-replicate, octets-put, octets-number}
 use Rattle.frame.specs.declared.Kind.{Kind}
 use Rattle.table.specs.Entries.{recordWidth, share}
 use Rattle.rules.specs.Config.{blockAt, lineLegal, defaults}

@@ -13,7 +13,7 @@ use Rattle.frame.specs.declared.Judged.the-variants.{Sound}
 use Rattle.frame.specs.Shape.{shapeOf, overhead}
 use Rattle.frame.specs.Judged.{judged, dataOf}
 use Rattle.frame.specs.Sealed.{frameOf}
-use Rattle.frame.proofs.Reading.{madeOf, request-back, request-parts, request-data}
+use Rattle.frame.proofs.ReadBack.{madeOf, request-back, request-parts, request-data}
 use Rattle.rules.specs.Desk.{Desk}
 use Rattle.rules.specs.Box.{Box, AtDesk, reply, frame, request, served, placed, deskAt, unlessRefused, step}
 use Rattle.rules.proofs.Refusals.{accepted}

@@ -12,7 +12,7 @@ use Rattle.octets.specs.Numbers.{number, u16At, Octets}
 use Rattle.octets.specs.Areas.{upto, change}
 use Rattle.octets.proofs.Puts.{put-length, part-length, part-part}
 use Rattle.octets.proofs.Numbers.{number-one, number-at, u16At-lt, octets-part}
-use Rattle.octets.proofs.Each.{All}
+use Rattle.octets.specs.Each.{All}
 use Rattle.timer.specs.declared.Timer.{Timer}
 use Rattle.timer.specs.Clock.{midnight, stepOf, timerFrom, timerOctets}
 use Rattle.timer.proofs.Ranges.{TimerLegal, timer-facts, step-legal}

@@ -6,11 +6,11 @@ use native.Mathlib.Nat.{mul-comm}
 use native.Mathlib.Omega.{arith}
 use lib.ListN.{length, length-append}
 use lib.Seq.{take-at}
-use Rattle.octets.specs.Parts.{part, concat}
+use Rattle.octets.specs.Parts.{part, joined}
 use Rattle.octets.specs.Numbers.{number, octets, u16At}
 use Rattle.octets.proofs.Numbers.{octets-length, number-octets}
-use Rattle.octets.proofs.Each.{All}
-use Rattle.octets.proofs.Rows.{Wide, length-concat}
+use Rattle.octets.specs.Each.{All}
+use Rattle.octets.proofs.Rows.{Wide, length-joined}
 use Rattle.table.specs.Entries.{recordWidth}
 use Rattle.rules.specs.Records.{counted, recordsFor}
 use Rattle.rules.proofs.Facts.{RecordLegal}
@@ -37,8 +37,8 @@ module _ (rs : List (List ℕ)) where
   pub counted-length : Wide recordWidth rs → length (counted rs) ≡ 2 + length rs * recordWidth
   unfolding counted
   counted-length w =
-      length-append (octets 2 (length rs)) (concat rs) ∙ omega (arith, octets-length 2 (length rs), length-concat recordWidth rs w, mul-comm recordWidth (length rs))
+      length-append (octets 2 (length rs)) (joined rs) ∙ omega (arith, octets-length 2 (length rs), length-joined recordWidth rs w, mul-comm recordWidth (length rs))
 
   pub count-back : length rs < 65536 → u16At 0 (counted rs) ≡ length rs
   unfolding counted u16At part
-  count-back h = ap number (take-at (octets 2 (length rs)) (concat rs) 2 (octets-length 2 (length rs))) ∙ number-octets 2 (length rs) h
+  count-back h = ap number (take-at (octets 2 (length rs)) (joined rs) 2 (octets-length 2 (length rs))) ∙ number-octets 2 (length rs) h

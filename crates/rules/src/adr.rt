@@ -1,4 +1,5 @@
 // CFG-ADR: bit 7 names EEPROM, bit 6 all blocks, bits 5 to 0 the block.
+use crate::BLOCKS;
 ghost use mathlib.Core.Path.{_≡_};
 ghost use Prim.Native.Nat.{_<_};
 ghost use Rattle.rules.specs.Config.{inEeprom, allBlocks, blockOf, namesOne, namesSome};
@@ -28,7 +29,7 @@ pub fn names_one(adr: u8) -> bool
     if all_blocks(adr) {
         return false;
     }
-    block_of(adr) < 16
+    block_of(adr) < BLOCKS
 }
 
 // What 0x82 and 0x83 take.
@@ -38,5 +39,5 @@ pub fn names_some(adr: u8) -> bool
     if all_blocks(adr) {
         return block_of(adr) == 0;
     }
-    block_of(adr) < 16
+    block_of(adr) < BLOCKS
 }

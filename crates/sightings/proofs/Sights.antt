@@ -10,7 +10,7 @@ use borrow.Author.Tests.{lt-ltb, le-ltb}
 use Rattle.octets.specs.Parts.{part, put}
 use Rattle.octets.specs.Numbers.{u16At, Octets}
 use Rattle.octets.specs.Areas.{upto}
-use Rattle.octets.proofs.Each.{Octet}
+use Rattle.octets.specs.Each.{Octet}
 use Rattle.octets.proofs.Puts.{put-length, part-at, part-part}
 use Rattle.octets.proofs.Numbers.{number-at, octets-part}
 use Rattle.timer.specs.Clock.{timerFrom}

@@ -7,10 +7,11 @@ use mathlib.Core.List.{List, [], _∷_, _++_, map, append-assoc}
 use native.Mathlib.Omega.{arith}
 use lib.Dec.{eqb, lit<, lit≤}
 use lib.ListN.{length, getD, replicate, length-append, length-replicate}
-use Rattle.octets.specs.Parts.{part, put, concat}
+use Rattle.octets.specs.Parts.{part, put, joined}
 use Rattle.octets.specs.Numbers.{number, octets}
 use Rattle.octets.specs.Areas.{upto}
-use Rattle.octets.proofs.Each.{All, Octet, octets-put, octets-number, all-append, all-replicate}
+use Rattle.octets.specs.Each.{All, Octet}
+use Rattle.octets.proofs.Each.{octets-put, octets-number, all-append, all-replicate}
 use Rattle.octets.proofs.Puts.{put-length}
 use Rattle.octets.proofs.Joins.{part-middle}
 use Rattle.octets.proofs.Numbers.{octets-length, number-octets}
@@ -35,26 +36,26 @@ cut : ℕ → List ℕ → List ℕ → List (List ℕ)
 cut at [] s = []
 cut at (w ∷ ws) s = part at w s ∷ cut (at + w) ws s
 
-cut-concat : (xs : List ℕ) (fs : List (List ℕ)) → cut (length xs) (map length fs) (xs ++ concat fs) ≡ fs
-unfolding cut concat
-cut-concat xs [] = refl
-cut-concat xs (f ∷ fs) =
-    rw (← append-assoc xs f (concat fs), ← length-append xs f)
-    (ap₂ _∷_ (part-middle xs f (concat fs) (length xs) (length f) refl refl) (cut-concat (xs ++ f) fs))
+cut-joined : (xs : List ℕ) (fs : List (List ℕ)) → cut (length xs) (map length fs) (xs ++ joined fs) ≡ fs
+unfolding cut joined
+cut-joined xs [] = refl
+cut-joined xs (f ∷ fs) =
+    rw (← append-assoc xs f (joined fs), ← length-append xs f)
+    (ap₂ _∷_ (part-middle xs f (joined fs) (length xs) (length f) refl refl) (cut-joined (xs ++ f) fs))
 
 total : List ℕ → ℕ
 total [] = 0
 total (w ∷ ws) = w + total ws
 
-length-total : (fs : List (List ℕ)) → length (concat fs) ≡ total (map length fs)
-unfolding total concat
+length-total : (fs : List (List ℕ)) → length (joined fs) ≡ total (map length fs)
+unfolding total joined
 length-total [] = refl
-length-total (f ∷ fs) = length-append f (concat fs) ∙ ap (λ (n : ℕ). length f + n) (length-total fs)
+length-total (f ∷ fs) = length-append f (joined fs) ∙ ap (λ (n : ℕ). length f + n) (length-total fs)
 
-pub octets-concat : (fs : List (List ℕ)) → All (All Octet) fs → All Octet (concat fs)
-unfolding concat
-octets-concat [] p = tt
-octets-concat (f ∷ fs) p = all-append Octet f (concat fs) (p .0) (octets-concat fs (p .1))
+pub octets-joined : (fs : List (List ℕ)) → All (All Octet) fs → All Octet (joined fs)
+unfolding joined
+octets-joined [] p = tt
+octets-joined (f ∷ fs) p = all-append Octet f (joined fs) (p .0) (octets-joined fs (p .1))
 
 -- ---- fields that are as long as those of a row
 
@@ -62,13 +63,13 @@ widths : List ℕ
 widths = map fieldSize (0 ∷ 1 ∷ 2 ∷ 3 ∷ 4 ∷ 5 ∷ 6 ∷ 7 ∷ 8 ∷ 9 ∷ [])
 
 module _ (fs : List (List ℕ)) (e : map length fs ≡ widths) where
-  together-length : length (concat fs) ≡ rowWidth
+  together-length : length (joined fs) ≡ rowWidth
   unfolding total widths
   together-length = length-total fs ∙ ap total e
 
-  together-fields : fields (concat fs) ≡ fs
+  together-fields : fields (joined fs) ≡ fs
   unfolding fields field upto cut widths
-  together-fields = ap (λ (ws : List ℕ). cut 0 ws (concat fs)) (sym e) ∙ cut-concat [] fs
+  together-fields = ap (λ (ws : List ℕ). cut 0 ws (joined fs)) (sym e) ∙ cut-joined [] fs
 
 -- ---- the fields of a desk
 
@@ -94,7 +95,7 @@ fieldsOf d =
     ∷ octets 1 (d .table .due) ∷ octets 1 (d .table .start) ∷ octets 1 (length (d .locks)) ∷ locksPadded (d .locks) ∷ []
 
 pub rowFor : Desk → List ℕ
-rowFor d = concat (fieldsOf d)
+rowFor d = joined (fieldsOf d)
 
 padded-length : (ls : List Lock) → length (locksPadded ls) ≡ 640
 unfolding locksPadded
@@ -107,7 +108,7 @@ lock-octets (l ∷ ls) = (all-append Octet (octets 8 (l .uid)) (octets 2 (l .lef
 
 padded-octets : (ls : List Lock) → All Octet (locksPadded ls)
 unfolding locksPadded locksOctets
-padded-octets ls = octets-put 0 (locksOctets ls) (replicate 640 0) (octets-concat (map lockOctets ls) (lock-octets ls)) (all-replicate Octet 640 0 (lit< tt))
+padded-octets ls = octets-put 0 (locksOctets ls) (replicate 640 0) (octets-joined (map lockOctets ls) (lock-octets ls)) (all-replicate Octet 640 0 (lit< tt))
 
 -- a number of one octet, read back
 one-back : (x : ℕ) → x ≤ 255 → number (octets 1 x) ≡ x
@@ -131,7 +132,7 @@ module _ (d : Desk) (p : DeskLegal d) where
 
   pub row-octets : All Octet (rowFor d)
   unfolding rowFor fieldsOf
-  row-octets = octets-concat (fieldsOf d) (search (octets-number, padded-octets, p .ram .octets, p .eeprom .octets, timer-octets (d .timer) (p .timer)) depth 14)
+  row-octets = octets-joined (fieldsOf d) (search (octets-number, padded-octets, p .ram .octets, p .eeprom .octets, timer-octets (d .timer) (p .timer)) depth 14)
 
   count-back : number (octets 1 (length (d .locks))) ≡ length (d .locks)
   count-back = one-back (length (d .locks)) (omega (arith, p .locks .few))

@@ -11,7 +11,8 @@ use lib.ListN.{length, getD, length-append, length-map}
 use lib.Seq.{ext-getD}
 use borrow.Author.Tests.{lt-ltb}
 use Rattle.octets.proofs.Tests.{and-both}
-use Rattle.octets.proofs.Each.{All, Octet, all-append, all-getD, all-replicate}
+use Rattle.octets.specs.Each.{All, Octet}
+use Rattle.octets.proofs.Each.{all-append, all-getD, all-replicate}
 use Rattle.octets.proofs.Rows.{Wide}
 use Rattle.table.specs.Entries.{width, desks, share, entryCount, owner, recordsOf, ownersBelow, sharesKept}
 use Rattle.table.proofs.Desks.{recordsOf-own, recordsOf-other, recordsOf-append}
@@ -26,7 +27,7 @@ use Rattle.store.specs.View.{boxFrom, view}
 use Rattle.store.specs.Sound.{tableSound, deskSound, sound}
 use Rattle.store.proofs.Boxes.{box-length, box-at}
 use Rattle.store.proofs.Laid.{laid, laid-octets, laid-sound, laid-says, zeros, zeros-size}
-use Rattle.store.proofs.DeskRows.{octets-concat, rowFor, row-length, row-octets, row-says, row-sound}
+use Rattle.store.proofs.DeskRows.{octets-joined, rowFor, row-length, row-octets, row-says, row-sound}
 
 -- ---- the entries of desk k, and of the desks of a box, counted from k
 
@@ -183,8 +184,8 @@ module _ (box : Box) (p : BoxLegal box) where
       record {
         store = laid (rowsFor box) its zeros;
         octets =
-            laid-octets (rowsFor box) its zeros (octets-concat (rowsFor box) (rows-octets box (p .each)))
-            (octets-concat its (right-octets its its-right)) zeros-octets;
+            laid-octets (rowsFor box) its zeros (octets-joined (rowsFor box) (rows-octets box (p .each)))
+            (octets-joined its (right-octets its its-right)) zeros-octets;
         still = laid-sound (rowsFor box) its zeros zeros-size count long wide few table-sound desk-sound;
         says = laid-says (rowsFor box) its zeros zeros-size count long wide few ∙ says-box;
       }

@@ -4,7 +4,7 @@ use mathlib.Core.Path.{_≡_, refl, sym, ap, _∙_}
 use mathlib.Core.Bool.{true}
 use mathlib.Core.List.{List, [], _∷_}
 use lib.ListN.{length, replicate, length-replicate, getD-replicate}
-use Rattle.octets.specs.Parts.{put, concat}
+use Rattle.octets.specs.Parts.{put, joined}
 use Rattle.octets.specs.Tests.{every}
 use Rattle.octets.specs.Areas.{upto}
 use Rattle.octets.proofs.Rows.{Wide}
@@ -41,8 +41,8 @@ freshRows : List (List ℕ)
 freshRows = replicate desks freshRow
 
 fresh-laid : freshStore ≡ laid freshRows [] zeros
-unfolding freshStore freshRows zeros laid put concat
-fresh-laid = ap (λ (h : List ℕ). put 6 (concat (replicate desks freshRow)) (put 0 h (replicate storeSize 0))) (sym none-used)
+unfolding freshStore freshRows zeros laid put joined
+fresh-laid = ap (λ (h : List ℕ). put 6 (joined (replicate desks freshRow)) (put 0 h (replicate storeSize 0))) (sym none-used)
 
 table-sound : tableSound [] ≡ true
 unfolding tableSound ownersBelow sharesKept recordsOf every

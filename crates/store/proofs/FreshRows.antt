@@ -5,12 +5,12 @@ use mathlib.Core.List.{List, [], _∷_, _++_, append-nil}
 use lib.ListN.{length, take, drop, replicate, length-append, length-drop, length-replicate, replicate-append-replicate, drop-of-length-le}
 use lib.Seq.{length-take-le, drop-at}
 use native.Mathlib.Omega.{arith}
-use Rattle.octets.specs.Parts.{put, concat}
+use Rattle.octets.specs.Parts.{put, joined}
 use Rattle.octets.specs.Numbers.{octets}
 use Rattle.octets.proofs.Puts.{put-length, put-append, put-front}
 use Rattle.octets.proofs.Joins.{put-next}
 use Rattle.octets.proofs.Numbers.{octets-length}
-use Rattle.octets.proofs.Rows.{Wide, concat-append, concat-one, length-concat}
+use Rattle.octets.proofs.Rows.{Wide, joined-append, joined-one, length-joined}
 use Rattle.table.specs.Entries.{desks}
 use Rattle.rules.specs.Config.{defaults, validOf}
 use Rattle.rules.proofs.Memories.{defaults-legal}
@@ -77,25 +77,25 @@ wide-alike w zero r e = tt
 wide-alike w (suc d) r e = (e, wide-alike w d r e)
 
 -- one row more, behind d of them
-pub rows-next : (w d start at : ℕ) (r r′ s s′ : List ℕ) → length r ≡ w → at ≡ start + w * d → r′ ≡ r → s′ ≡ put start (concat (replicate d r)) s → put at r′ s′ ≡ put start (concat (replicate (d + 1) r)) s
+pub rows-next : (w d start at : ℕ) (r r′ s s′ : List ℕ) → length r ≡ w → at ≡ start + w * d → r′ ≡ r → s′ ≡ put start (joined (replicate d r)) s → put at r′ s′ ≡ put start (joined (replicate (d + 1) r)) s
 rows-next w d start at r r′ s s′ e h p q =
     let rs = replicate d r in
-    let l : length (concat rs) ≡ w * d = length-concat w rs (wide-alike w d r e) ∙ ap (λ (k : ℕ). w * k) (length-replicate d r) in
-    let more : concat (replicate (d + 1) r) ≡ concat rs ++ r =
-    ap concat (sym (replicate-append-replicate d 1 r)) ∙ concat-append rs (r ∷ []) ∙ ap (λ (x : List ℕ). concat rs ++ x) (concat-one r)
+    let l : length (joined rs) ≡ w * d = length-joined w rs (wide-alike w d r e) ∙ ap (λ (k : ℕ). w * k) (length-replicate d r) in
+    let more : joined (replicate (d + 1) r) ≡ joined rs ++ r =
+    ap joined (sym (replicate-append-replicate d 1 r)) ∙ joined-append rs (r ∷ []) ∙ ap (λ (x : List ℕ). joined rs ++ x) (joined-one r)
     in
-    let at-is : at ≡ start + length (concat rs) = omega arith in
-    rw (p, q, at-is, more) (sym (put-append start (concat rs) r s))
+    let at-is : at ≡ start + length (joined rs) = omega arith in
+    rw (p, q, at-is, more) (sym (put-append start (joined rs) r s))
 
 -- ---- the whole store
 
 -- zeros behind the rows, the header and the rows in front of them
 pub store-made : (s y : List ℕ) → length s ≡ storeSize → y ≡ replicate (length (take 7586 (drop 8798 s))) 0
-    → put 6 (concat (replicate desks freshRow)) (put 0 freshHeader (take 8798 s ++ (y ++ drop 7586 (drop 8798 s)))) ≡ freshStore
+    → put 6 (joined (replicate desks freshRow)) (put 0 freshHeader (take 8798 s ++ (y ++ drop 7586 (drop 8798 s)))) ≡ freshStore
 unfolding freshStore
 store-made s y e z =
-    let rs = concat (replicate desks freshRow) in
-    let rows : length rs ≡ rowWidth * desks = length-concat rowWidth (replicate desks freshRow) (wide-alike rowWidth desks freshRow row-length) ∙ ap (λ (k : ℕ). rowWidth * k) (length-replicate desks freshRow) in
+    let rs = joined (replicate desks freshRow) in
+    let rows : length rs ≡ rowWidth * desks = length-joined rowWidth (replicate desks freshRow) (wide-alike rowWidth desks freshRow row-length) ∙ ap (λ (k : ℕ). rowWidth * k) (length-replicate desks freshRow) in
     put-next freshHeader rs _ 6 fresh-length
     ∙ zeros-behind (freshHeader ++ rs) s y 8798 7586 (length-append freshHeader rs ∙ omega (arith, fresh-length)) e z
     ∙ sym (put-next freshHeader rs (replicate storeSize 0) 6 fresh-length)

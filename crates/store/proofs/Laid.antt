@@ -9,12 +9,13 @@ use native.Mathlib.Nat.{add-zero}
 use native.Mathlib.Omega.{arith}
 use lib.Dec.{lit<, lit≤}
 use lib.ListN.{length, replicate, length-replicate}
-use Rattle.octets.specs.Parts.{part, put, rows, concat}
+use Rattle.octets.specs.Parts.{part, put, rows, joined}
 use Rattle.octets.specs.Numbers.{octets}
 use Rattle.octets.specs.Areas.{upto}
-use Rattle.octets.proofs.Each.{All, Octet, octets-put, octets-number, all-append}
+use Rattle.octets.specs.Each.{All, Octet}
+use Rattle.octets.proofs.Each.{octets-put, octets-number, all-append}
 use Rattle.octets.proofs.Puts.{put-length, part-length, part-put-away, part-put-in, part-put-same}
-use Rattle.octets.proofs.Rows.{Wide, length-concat, rows-concat}
+use Rattle.octets.proofs.Rows.{Wide, length-joined, rows-joined}
 use Rattle.table.specs.Entries.{width, desks, entryCount, entries}
 use Rattle.rules.proofs.Computed.{computed}
 use Rattle.store.specs.Layout.{storeSize, rowWidth, sizeOf, header, startOf, usedOf, area, areas}
@@ -55,22 +56,22 @@ header-length n = put-length 4 (octets 2 n) freshHeader ∙ fresh-length
 
 -- ---- rows of one width, put where a part begins
 
-rows-put-in : (at n w : ℕ) (es : List (List ℕ)) (s : List ℕ) → Wide w es → w * length es ≤ n → at + n ≤ length s → rows (length es) w (part at n (put at (concat es) s)) ≡ es
+rows-put-in : (at n w : ℕ) (es : List (List ℕ)) (s : List ℕ) → Wide w es → w * length es ≤ n → at + n ≤ length s → rows (length es) w (part at n (put at (joined es) s)) ≡ es
 rows-put-in at n w es s wide fit inside =
-    ap (λ (k : ℕ). rows (length es) w (part at n (put k (concat es) s))) (sym (add-zero at))
-    ∙ ap (rows (length es) w) (part-put-in at n 0 (concat es) s (omega (arith, length-concat w es wide)))
-    ∙ rows-concat w es (part at n s) wide (omega (arith, part-length at n s inside))
+    ap (λ (k : ℕ). rows (length es) w (part at n (put k (joined es) s))) (sym (add-zero at))
+    ∙ ap (rows (length es) w) (part-put-in at n 0 (joined es) s (omega (arith, length-joined w es wide)))
+    ∙ rows-joined w es (part at n s) wide (omega (arith, part-length at n s inside))
 
 -- ---- the store
 
 unfoldable pub laid : List (List ℕ) → List (List ℕ) → List ℕ → List ℕ
-laid rs es b = put (6 + rowWidth * desks) (concat es) (put 6 (concat rs) (put 0 (laidHeader (length es)) b))
+laid rs es b = put (6 + rowWidth * desks) (joined es) (put 6 (joined rs) (put 0 (laidHeader (length es)) b))
 
-pub laid-octets : (rs es : List (List ℕ)) (b : List ℕ) → All Octet (concat rs) → All Octet (concat es) → All Octet b → All Octet (laid rs es b)
+pub laid-octets : (rs es : List (List ℕ)) (b : List ℕ) → All Octet (joined rs) → All Octet (joined es) → All Octet b → All Octet (laid rs es b)
 unfolding laid laidHeader
 laid-octets rs es b p q o =
-    octets-put (6 + rowWidth * desks) (concat es) _ q
-    (octets-put 6 (concat rs) _ p (octets-put 0 (laidHeader (length es)) b (octets-put 4 (octets 2 (length es)) freshHeader (octets-number 2 (length es)) fresh-octets) o))
+    octets-put (6 + rowWidth * desks) (joined es) _ q
+    (octets-put 6 (joined rs) _ p (octets-put 0 (laidHeader (length es)) b (octets-put 4 (octets 2 (length es)) freshHeader (octets-number 2 (length es)) fresh-octets) o))
 
 module _
     (rs es : List (List ℕ))
@@ -85,23 +86,23 @@ module _
     headed = put 0 (laidHeader (length es)) b
 
     abbrev rowed : List ℕ
-    rowed = put 6 (concat rs) headed
+    rowed = put 6 (joined rs) headed
 
-    rows-long : length (concat rs) ≡ rowWidth * desks
-    rows-long = length-concat rowWidth rs long ∙ ap (λ (n : ℕ). rowWidth * n) count
+    rows-long : length (joined rs) ≡ rowWidth * desks
+    rows-long = length-joined rowWidth rs long ∙ ap (λ (n : ℕ). rowWidth * n) count
 
     rowed-size : length rowed ≡ storeSize
-    rowed-size = put-length 6 (concat rs) headed ∙ put-length 0 (laidHeader (length es)) b ∙ size
+    rowed-size = put-length 6 (joined rs) headed ∙ put-length 0 (laidHeader (length es)) b ∙ size
 
     laid-size : length (laid rs es b) ≡ storeSize
     unfolding laid
-    laid-size = put-length (6 + rowWidth * desks) (concat es) rowed ∙ rowed-size
+    laid-size = put-length (6 + rowWidth * desks) (joined es) rowed ∙ rowed-size
 
     laid-header : header (laid rs es b) ≡ laidHeader (length es)
     unfolding header laid
     laid-header =
-        part-put-away 0 6 (6 + rowWidth * desks) (concat es) rowed (inr (lit≤ tt))
-        ∙ part-put-away 0 6 6 (concat rs) headed (inr (lit≤ tt))
+        part-put-away 0 6 (6 + rowWidth * desks) (joined es) rowed (inr (lit≤ tt))
+        ∙ part-put-away 0 6 6 (joined rs) headed (inr (lit≤ tt))
         ∙ ap (λ (n : ℕ). part 0 n headed) (sym (header-length (length es)))
         ∙ part-put-same 0 (laidHeader (length es)) b (omega (arith, header-length (length es)))
 
@@ -121,7 +122,7 @@ module _
     unfolding areas upto area laid
     laid-rows =
         ap (λ (at : ℕ). rows desks rowWidth (part at (sizeOf 1) (laid rs es b))) (start-is 1 6 (lit< tt) rows-start)
-        ∙ ap (rows desks rowWidth) (part-put-away 6 (sizeOf 1) (6 + rowWidth * desks) (concat es) rowed (inr (lit≤ tt)))
+        ∙ ap (rows desks rowWidth) (part-put-away 6 (sizeOf 1) (6 + rowWidth * desks) (joined es) rowed (inr (lit≤ tt)))
         ∙ ap (λ (n : ℕ). rows n rowWidth (part 6 (sizeOf 1) rowed)) (sym count)
         ∙ rows-put-in 6 (sizeOf 1) rowWidth rs headed long (omega arith) (omega (arith, put-length 0 (laidHeader (length es)) b))
 

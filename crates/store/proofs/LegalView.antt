@@ -12,7 +12,8 @@ use Rattle.octets.specs.Numbers.{number, Octets}
 use Rattle.octets.specs.Areas.{upto}
 use Rattle.octets.proofs.Tests.{and-left, and-right}
 use Rattle.octets.proofs.Numbers.{number-lt, octets-part}
-use Rattle.octets.proofs.Each.{All, Octet, octets-each, all-drop}
+use Rattle.octets.specs.Each.{All, Octet}
+use Rattle.octets.proofs.Each.{octets-each, all-drop}
 use Rattle.octets.proofs.Rows.{Wide, rows-wide, rows-octets, rows-length}
 use Rattle.timer.specs.Clock.{timerLegal, timerFrom}
 use Rattle.locks.specs.Locks.{mostLocks, locksIn, locksLegal}

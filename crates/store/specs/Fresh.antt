@@ -2,7 +2,7 @@
 use Prim.Native.Nat.{ℕ, _+_, _*_}
 use mathlib.Core.List.{List, _++_}
 use lib.ListN.{replicate}
-use Rattle.octets.specs.Parts.{put, concat}
+use Rattle.octets.specs.Parts.{put, joined}
 use Rattle.octets.specs.Numbers.{octets}
 use Rattle.table.specs.Entries.{desks}
 use Rattle.rules.specs.Config.{defaults, validOf}
@@ -17,4 +17,4 @@ unfoldable pub freshHeader : List ℕ
 freshHeader = octets 2 6 ++ octets 2 (6 + rowWidth * desks) ++ octets 2 0
 
 unfoldable pub freshStore : List ℕ
-freshStore = put 6 (concat (replicate desks freshRow)) (put 0 freshHeader (replicate storeSize 0))
+freshStore = put 6 (joined (replicate desks freshRow)) (put 0 freshHeader (replicate storeSize 0))

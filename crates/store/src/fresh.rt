@@ -2,7 +2,7 @@
 ghost use mathlib.Core.Path.{_≡_};
 ghost use Prim.Native.Nat.{_+_, _≤_, _<_};
 ghost use lib.ListN.{length, replicate};
-ghost use Rattle.octets.specs.Parts.{put, concat};
+ghost use Rattle.octets.specs.Parts.{put, joined};
 ghost use Rattle.table.specs.Entries.{desks};
 ghost use Rattle.rules.specs.Config.{blockAt, written, defaults};
 ghost use Rattle.store.specs.Layout.{storeSize, rowWidth};
@@ -91,7 +91,7 @@ fn put_header(s: &mut [u8])
 // Writes the rows behind the header.
 fn put_rows(s: &mut [u8])
     requires { ⌜ 8798 ≤ length (now s) ⌝ }
-    ensures { λ _. ⌜ now (s .exit) ≡ put 6 (concat (replicate desks freshRow)) (now (s .entry)) ⌝ }
+    ensures { λ _. ⌜ now (s .exit) ≡ put 6 (joined (replicate desks freshRow)) (now (s .entry)) ⌝ }
 {
     let mut d: usize = 0;
     while d < 8 {

@@ -5,8 +5,8 @@ use native.Mathlib.Omega.{arith}
 use mathlib.Core.Bool.{true}
 use mathlib.Core.List.{List, [], _∷_, _++_}
 use lib.ListN.{length, take, drop}
-use Rattle.octets.specs.Parts.{put, concat}
-use Rattle.octets.proofs.Rows.{Wide, wide-take, rows-wide, rows-length, length-concat, rows-before, rows-more, rows-concat}
+use Rattle.octets.specs.Parts.{put, joined}
+use Rattle.octets.proofs.Rows.{Wide, wide-take, rows-wide, rows-length, length-joined, rows-before, rows-more, rows-joined}
 use Rattle.table.specs.Entries.{width, recordWidth, desks, share, entries, recordsOf, without, ownersBelow, sharesKept}
 use Rattle.table.proofs.Desks.{recordsOf-snoc-own, recordsOf-snoc-other, recordsOf-wide, without-records, without-others, without-length, without-wide}
 use Rattle.table.proofs.Owners.{ownersBelow-snoc, ownersBelow-without}
@@ -40,7 +40,7 @@ module _ (n d : ℕ) (r t : List ℕ) (wide : length r ≡ recordWidth) (fits : 
 
 -- the entries after `remove` of the first k records of desk d
 abbrev pub removed : ℕ → ℕ → ℕ → List ℕ → List (List ℕ)
-removed n d k t = entries (length (without d k (entries n t))) (put 0 (concat (without d k (entries n t))) t)
+removed n d k t = entries (length (without d k (entries n t))) (put 0 (joined (without d k (entries n t))) t)
 
 module _ (n d k : ℕ) (t : List ℕ) (fits : width * n ≤ length t) where
   kept-wide : Wide width (without d k (entries n t))
@@ -50,11 +50,11 @@ module _ (n d k : ℕ) (t : List ℕ) (fits : width * n ≤ length t) where
   pub remove-fewer : length (without d k (entries n t)) ≤ n
   remove-fewer = omega (arith, without-length d k (entries n t), rows-length n width t)
 
-  pub remove-size : length (concat (without d k (entries n t))) ≤ width * n
-  remove-size = omega (arith, remove-fewer, length-concat width (without d k (entries n t)) kept-wide)
+  pub remove-size : length (joined (without d k (entries n t))) ≤ width * n
+  remove-size = omega (arith, remove-fewer, length-joined width (without d k (entries n t)) kept-wide)
 
   pub remove-entries : removed n d k t ≡ without d k (entries n t)
-  remove-entries = rows-concat width (without d k (entries n t)) t kept-wide (omega (arith, remove-fewer))
+  remove-entries = rows-joined width (without d k (entries n t)) t kept-wide (omega (arith, remove-fewer))
 
   pub remove-owners : ownersBelow desks (entries n t) ≡ true → ownersBelow desks (removed n d k t) ≡ true
   remove-owners o = rw remove-entries (ownersBelow-without desks d k (entries n t) o)
@@ -70,7 +70,7 @@ module _ (n d k : ℕ) (t : List ℕ) (fits : width * n ≤ length t) where
   remove-others c h = rw remove-entries (without-others d k c (entries n t) h)
 
   -- `gather` of the first m records of desk d writes so many octets
-  pub gather-size : (m : ℕ) → length (concat (take m (recordsOf d (entries n t)))) ≡ recordWidth * length (take m (recordsOf d (entries n t)))
+  pub gather-size : (m : ℕ) → length (joined (take m (recordsOf d (entries n t)))) ≡ recordWidth * length (take m (recordsOf d (entries n t)))
   gather-size m =
-      length-concat recordWidth (take m (recordsOf d (entries n t)))
+      length-joined recordWidth (take m (recordsOf d (entries n t)))
       (wide-take recordWidth m (recordsOf d (entries n t)) (recordsOf-wide recordWidth d (entries n t) (rows-wide n width t fits)))

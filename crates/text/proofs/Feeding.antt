@@ -8,15 +8,15 @@ use native.Mathlib.Omega.{arith}
 use borrow.Author.Tests.{lt-ltb, le-ltb}
 use lib.ListN.{length, take, set, length-append, length-set}
 use lib.Seq.{take-all, take-nil, take-suc-set, take-append-le, set-out}
-use Rattle.octets.specs.Tests.{all}
-use Rattle.text.specs.declared.Reading.{Reading}
+use Rattle.octets.specs.Tests.{allOf}
+use Rattle.text.specs.declared.Begun.{Begun}
 use Rattle.text.specs.Digits.{isHex}
 use Rattle.text.specs.Listing.{odd}
-use Rattle.text.specs.Reading.{Fed, Feeds, fedOne}
+use Rattle.text.specs.Feeding.{Fed, Feeds, fedOne}
 use Rattle.text.proofs.Values.{all-snoc}
 
 pub fed-none : (held : List ℕ) → Fed [] (record { held = 0; over = false; odd = false; bad = false }) held
-unfolding odd all
+unfolding odd allOf
 fed-none held =
     record {
       count-is = omega arith;
@@ -36,7 +36,7 @@ not-and true b = refl
 not-and false b = refl
 
 -- the octet c, and whether one was no hex digit after it
-module _ (c : ℕ) (at : Reading) (held : List ℕ) (b : Bool) (spoilt : b ≡ (at .bad || not (isHex c))) where
+module _ (c : ℕ) (at : Begun) (held : List ℕ) (b : Bool) (spoilt : b ≡ (at .bad || not (isHex c))) where
   module _ (text : List ℕ) (f : Fed text at held) where
     more : length (text ++ (c ∷ [])) ≡ length text + 1
     more = omega (arith, length-append text (c ∷ []))
@@ -44,11 +44,11 @@ module _ (c : ℕ) (at : Reading) (held : List ℕ) (b : Bool) (spoilt : b ≡ (
     odd-more : not (at .odd) ≡ odd (text ++ (c ∷ []))
     odd-more = ap not (f .odd-is) ∙ sym (odd-snoc text c)
 
-    bad-more : b ≡ not (all isHex (text ++ (c ∷ [])))
+    bad-more : b ≡ not (allOf isHex (text ++ (c ∷ [])))
     bad-more =
         spoilt
         ∙ ap (λ (x : Bool). x || not (isHex c)) (f .bad-is)
-        ∙ not-and (all isHex text) (isHex c)
+        ∙ not-and (allOf isHex text) (isHex c)
         ∙ ap not (sym (all-snoc isHex text c))
 
     held-more : at .held < length held

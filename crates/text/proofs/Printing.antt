@@ -14,7 +14,7 @@ use Rattle.depot.specs.declared.Answer.{Answer}
 use Rattle.depot.specs.declared.Answer.the-variants.{Refused, Reply, Sighted, Done}
 use Rattle.depot.proofs.Short.{Short}
 use Rattle.text.specs.Listing.{refusedLine, hexLine, seenLine, okLine, printed}
-use Rattle.text.specs.Reading.{longestLine}
+use Rattle.text.specs.Feeding.{longestLine}
 
 pub hex-line-length : (s : List ℕ) → length (hexLine s) ≡ 2 * length s + 1
 unfolding hexLine

@@ -16,11 +16,11 @@ use Rattle.rules.specs.Box.{Event}
 use Rattle.store.specs.View.{view}
 use Rattle.depot.specs.declared.Answer.{Answer}
 use Rattle.depot.proofs.Once.{once}
-use Rattle.text.specs.declared.Reading.{Reading}
+use Rattle.text.specs.declared.Begun.{Begun}
 use Rattle.text.specs.Listing.{Line, frame, sighting, tick, notRead, printed, Printed, Answered}
-use Rattle.text.specs.Reading.{readOff, ReadOff, longestLine, listRefusals, Lists, Listed}
+use Rattle.text.specs.Feeding.{readOff, ReadOff, longestLine, listRefusals, Lists, Listed}
 
-module _ (at : Reading) (held s reply out : List ℕ) where
+module _ (at : Begun) (held s reply out : List ℕ) where
   pub no-room : length out < longestLine → Listed at held s reply out (Refused NoRoom) s reply out
   unfolding listRefusals first
   no-room h = record { lists = rw (lt-ltb _ _ h) (refl, refl, refl, refl) }
@@ -70,7 +70,7 @@ module _ (s reply out : List ℕ) (n n″ : ℕ) (s′ s″ reply′ reply″ ou
       let b = q .answers in
       alike (ap view (a .0 ∙ sym (b .0))) (a .1 ∙ sym (b .1)) (printed-once _ _ out n n″ out′ out″ refl (a .2) (b .2))
 
-module _ (at : Reading) (held s reply out : List ℕ) (r r″ : Written) (s′ s″ reply′ reply″ out′ out″ : List ℕ) where
+module _ (at : Begun) (held s reply out : List ℕ) (r r″ : Written) (s′ s″ reply′ reply″ out′ out″ : List ℕ) where
   lists-once : (o : Option Refusal) → Lists o at held s reply out r s′ reply′ out′ → Lists o at held s reply out r″ s″ reply″ out″ → Same r r″ s′ s″ reply′ reply″ out′ out″
   lists-once (some why) p q =
       record { results = p .0 ∙ sym (q .0); views = ap view (p .1 ∙ sym (q .1)); replies = p .2 ∙ sym (q .2); outputs = p .3 ∙ sym (q .3) }

@@ -11,7 +11,7 @@ use borrow.Author.Tests.{lt-leb, le-leb, leb-true}
 use lib.ListN.{length, getD, take, drop, set, length-drop, drop-of-length-le}
 use lib.Dec.{leb}
 use lib.Seq.{drop-cons, take-all}
-use Rattle.octets.specs.Tests.{all}
+use Rattle.octets.specs.Tests.{allOf}
 use Rattle.octets.specs.Parts.{put}
 use Rattle.octets.proofs.Tests.{both}
 use Rattle.octets.proofs.Puts.{put-more, put-whole}
@@ -65,24 +65,24 @@ module _ (c : ℕ) where
 
 -- ---- a test of each, from the first on
 
-module _ (f : ℕ → Bool) (s : List ℕ) (i : ℕ) (so : all f s ≡ all f (drop i s)) where
-  pub all-end : length s ≤ i → true ≡ all f s
-  unfolding all
-  all-end h = sym (so ∙ ap (all f) (drop-of-length-le s {i = i} h))
+module _ (f : ℕ → Bool) (s : List ℕ) (i : ℕ) (so : allOf f s ≡ allOf f (drop i s)) where
+  pub all-end : length s ≤ i → true ≡ allOf f s
+  unfolding allOf
+  all-end h = sym (so ∙ ap (allOf f) (drop-of-length-le s {i = i} h))
 
   module _ (less : i < length s) where
-    next : all f s ≡ f (getD s i 0) && all f (drop (i + 1) s)
-    unfolding all
-    next = so ∙ ap (all f) (drop-cons s i 0 less ∙ ap (λ (k : ℕ). getD s i 0 ∷ drop k s) (sym (add-one i)))
+    next : allOf f s ≡ f (getD s i 0) && allOf f (drop (i + 1) s)
+    unfolding allOf
+    next = so ∙ ap (allOf f) (drop-cons s i 0 less ∙ ap (λ (k : ℕ). getD s i 0 ∷ drop k s) (sym (add-one i)))
 
-    pub all-stop : f (getD s i 0) ≡ false → false ≡ all f s
+    pub all-stop : f (getD s i 0) ≡ false → false ≡ allOf f s
     all-stop e = sym (next ∙ rw e)
 
-    pub all-go : f (getD s i 0) ≡ true → all f s ≡ all f (drop (i + 1) s)
+    pub all-go : f (getD s i 0) ≡ true → allOf f s ≡ allOf f (drop (i + 1) s)
     all-go e = next ∙ rw e
 
-pub all-snoc : (f : ℕ → Bool) (s : List ℕ) (c : ℕ) → all f (s ++ (c ∷ [])) ≡ all f s && f c
-unfolding all
+pub all-snoc : (f : ℕ → Bool) (s : List ℕ) (c : ℕ) → allOf f (s ++ (c ∷ [])) ≡ allOf f s && f c
+unfolding allOf
 all-snoc f [] c = go (f c)
   where
     go : (b : Bool) → b && true ≡ true && b
@@ -90,7 +90,7 @@ all-snoc f [] c = go (f c)
     go false = refl
 all-snoc f (x ∷ s) c = ap (λ (b : Bool). f x && b) (all-snoc f s c) ∙ go (f x)
   where
-    go : (b : Bool) → b && (all f s && f c) ≡ (b && all f s) && f c
+    go : (b : Bool) → b && (allOf f s && f c) ≡ (b && allOf f s) && f c
     go true = refl
     go false = refl
 

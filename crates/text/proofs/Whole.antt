@@ -9,23 +9,23 @@ use borrow.Author.Tests.{lt-ltb, le-ltb, ne-eqb, eqb-true}
 use lib.ListN.{length, getD, take, drop}
 use lib.Dec.{eqb}
 use lib.Seq.{length-take-le, take-all}
-use Rattle.octets.specs.Tests.{all}
+use Rattle.octets.specs.Tests.{allOf}
 use Rattle.octets.specs.Parts.{part}
 use Rattle.octets.specs.Numbers.{number}
 use Rattle.octets.proofs.Tests.{both}
 use Rattle.rules.specs.Box.{Event}
 use Rattle.depot.specs.declared.Answer.{Answer}
 use Rattle.depot.specs.Called.{Called}
-use Rattle.text.specs.declared.Reading.{Reading}
+use Rattle.text.specs.declared.Begun.{Begun}
 use Rattle.text.specs.Digits.{decimal, isHex, octetsOf}
 use Rattle.text.specs.Listing.{Line, frame, tick, notRead, odd, isTick, isSighting, sightingOf, otherLine, lineOf, Printed, printed, Answered}
-use Rattle.text.specs.Reading.{Fed, readOff, ReadOff}
+use Rattle.text.specs.Feeding.{Fed, readOff, ReadOff}
 use Rattle.text.proofs.Values.{bounds, octets-length}
 use Rattle.text.proofs.Long.{long-called}
 
 -- ---- the line that is read off, as the code finds out
 
-module _ (at : Reading) (held : List ℕ) where
+module _ (at : Begun) (held : List ℕ) where
   module _ (bad : at .bad ≡ true) where
     pub reads-long : at .over ≡ true → readOff at held ≡ notRead
     unfolding readOff
@@ -63,15 +63,15 @@ module _ (s : List ℕ) where
   unfolding otherLine
   other-none e q = rw (e, q)
 
-  hex-odd : all isHex s ≡ true → odd s ≡ true → lineOf s ≡ notRead
+  hex-odd : allOf isHex s ≡ true → odd s ≡ true → lineOf s ≡ notRead
   unfolding lineOf
   hex-odd p q = rw (p, q)
 
-  hex-even : all isHex s ≡ true → odd s ≡ false → lineOf s ≡ frame (octetsOf s)
+  hex-even : allOf isHex s ≡ true → odd s ≡ false → lineOf s ≡ frame (octetsOf s)
   unfolding lineOf
   hex-even p q = rw (p, q)
 
-  no-hex : all isHex s ≡ false → lineOf s ≡ otherLine s
+  no-hex : allOf isHex s ≡ false → lineOf s ≡ otherLine s
   unfolding lineOf
   no-hex p = rw p
 
@@ -83,7 +83,7 @@ sighting-facts s e =
     let size : Bool = eqb (length s) 20 in
     let letter : Bool = eqb (getD s 0 0) 0x73 in
     let digit : Bool = decimal (getD s 1 0) in
-    let three = both (size && letter && digit) (all isHex (drop 2 s)) e .0 in
+    let three = both (size && letter && digit) (allOf isHex (drop 2 s)) e .0 in
     let desk = bounds 0x30 0x39 (getD s 1 0) (both (size && letter) digit three .1) in
     (eqb-true (length s) 20 (both size letter (both (size && letter) digit three .0) .0), desk .0, desk .1)
 
@@ -109,7 +109,7 @@ module _ (s reply out : List ℕ) (n : ℕ) (s′ reply′ out′ : List ℕ) wh
         );
       }
 
-  module _ (text : List ℕ) (at : Reading) (held : List ℕ) (f : Fed text at held) (room : 1686 ≤ length held) where
+  module _ (text : List ℕ) (at : Begun) (held : List ℕ) (f : Fed text at held) (room : 1686 ≤ length held) where
     -- the whole text is held
     all-held : length text ≤ length held → take (at .held) held ≡ text
     all-held h = f .held-is ∙ take-all (length held) text h
@@ -125,11 +125,11 @@ module _ (s reply out : List ℕ) (n : ℕ) (s′ reply′ out′ : List ℕ) wh
           | no h ↦ subst (λ (xs : List ℕ). Ends (frame (octetsOf xs))) (all-held (omega arith)) q
         ]
 
-    hex-whole : (b : Bool) → odd text ≡ b → all isHex text ≡ true → Ends (readOff at held) → Ends (lineOf text)
+    hex-whole : (b : Bool) → odd text ≡ b → allOf isHex text ≡ true → Ends (readOff at held) → Ends (lineOf text)
     hex-whole true e p q = rw (hex-odd text p e) (rw (reads-odd at held (f .bad-is ∙ ap not p) (f .odd-is ∙ e)) at q)
     hex-whole false e p q = rw (hex-even text p e) (frames (rw (reads-frame at held (f .bad-is ∙ ap not p) (f .odd-is ∙ e)) at q))
 
-    other-whole : all isHex text ≡ false → Ends (readOff at held) → Ends (lineOf text)
+    other-whole : allOf isHex text ≡ false → Ends (readOff at held) → Ends (lineOf text)
     other-whole p q =
         elim (decLt (length held) (length text)) [
           | yes h ↦
@@ -141,11 +141,11 @@ module _ (s reply out : List ℕ) (n : ℕ) (s′ reply′ out′ : List ℕ) wh
               (rw (reads-other at held (f .bad-is ∙ ap not p) (f .over-is ∙ le-ltb (length held) (length text) (omega arith))) at q))
         ]
 
-    either : (b : Bool) → all isHex text ≡ b → Ends (readOff at held) → Ends (lineOf text)
+    either : (b : Bool) → allOf isHex text ≡ b → Ends (readOff at held) → Ends (lineOf text)
     either true e q = hex-whole (odd text) refl e q
     either false e q = other-whole e q
 
-  pub read-whole : (at : Reading) (held : List ℕ) (l : Line) → readOff at held ≡ l → Ends l → ReadOff at held s reply out n s′ reply′ out′
+  pub read-whole : (at : Begun) (held : List ℕ) (l : Line) → readOff at held ≡ l → Ends l → ReadOff at held s reply out n s′ reply′ out′
   read-whole at held l e q =
       let read : Ends (readOff at held) = subst Ends (sym e) q in
-      record { read = read; whole = λ text f room. either text at held f room (all isHex text) refl read }
+      record { read = read; whole = λ text f room. either text at held f room (allOf isHex text) refl read }

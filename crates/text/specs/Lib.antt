@@ -1,3 +1,3 @@
 pub mod Digits
 pub mod Listing
-pub mod Reading
+pub mod Feeding

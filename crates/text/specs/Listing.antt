@@ -5,7 +5,7 @@ use mathlib.Core.Bool.{Bool, false, cond, not, _&&_}
 use mathlib.Core.List.{List, [], _∷_, _++_}
 use lib.ListN.{length, getD, take, drop}
 use lib.Dec.{eqb}
-use Rattle.octets.specs.Tests.{all}
+use Rattle.octets.specs.Tests.{allOf}
 use Rattle.octets.specs.Parts.{part, put}
 use Rattle.octets.specs.Numbers.{number}
 use Rattle.frame.specs.Refusal.{numberOf}
@@ -37,7 +37,7 @@ isTick s = eqb (length s) 1 && eqb (getD s 0 0) 0x74
 
 -- `s`, a decimal desk digit, 16 hex digits and two for the mask, without spaces
 unfoldable pub isSighting : List ℕ → Bool
-isSighting s = eqb (length s) 20 && eqb (getD s 0 0) 0x73 && decimal (getD s 1 0) && all isHex (drop 2 s)
+isSighting s = eqb (length s) 20 && eqb (getD s 0 0) 0x73 && decimal (getD s 1 0) && allOf isHex (drop 2 s)
 
 unfoldable pub sightingOf : List ℕ → Line
 sightingOf s = let o = octetsOf (drop 2 s) in sighting (getD s 1 0 - 0x30) (number (part 0 8 o)) (getD o 8 0)
@@ -48,7 +48,7 @@ otherLine s = cond (isTick s) tick (cond (isSighting s) (sightingOf s) notRead)
 
 -- the octets of a line, without its LF; an empty line is an empty frame
 unfoldable pub lineOf : List ℕ → Line
-lineOf s = cond (all isHex s) (cond (odd s) notRead (frame (octetsOf s))) (otherLine s)
+lineOf s = cond (allOf isHex s) (cond (odd s) notRead (frame (octetsOf s))) (otherLine s)
 
 -- ---- what is printed
 

@@ -4,7 +4,7 @@ ghost use mathlib.Core.Path.{_≡_};
 ghost use Prim.Native.Nat.{_/_, _<_, min};
 ghost use lib.ListN.{length, take};
 ghost use Rattle.octets.specs.Parts.{put};
-ghost use Rattle.octets.specs.Tests.{all};
+ghost use Rattle.octets.specs.Tests.{allOf};
 ghost use Rattle.text.specs.Digits.{isHex, valueOf, octetsOf};
 ghost use Rattle.text.specs.Digits.{between as Digits·between};
 
@@ -47,7 +47,7 @@ fn value(c: u8) -> u8
 
 // Whether each octet is a hex digit.
 pub fn all_hex(s: &[u8]) -> bool
-    ensures { λ r. ⌜ r ≡ all isHex (now (s .entry)) ⌝ }
+    ensures { λ r. ⌜ r ≡ allOf isHex (now (s .entry)) ⌝ }
 {
     let mut i: usize = 0;
     while i < s.len() {

@@ -15,7 +15,7 @@ ghost use Prim.Native.Nat.{ℕ, _≤_};
 ghost use lib.ListN.{length};
 ghost use Rattle.text.specs.Digits.{isHex, octetsOf};
 ghost use Rattle.text.specs.Listing.{Line, isTick, isSighting, sightingOf, otherLine, Answered};
-ghost use Rattle.text.specs.Reading.{Fed, Feeds, ReadOff, longestLine, Listed};
+ghost use Rattle.text.specs.Feeding.{Fed, Feeds, ReadOff, longestLine, Listed};
 
 mod digits;
 mod print;
@@ -25,7 +25,7 @@ pub const LONGEST: usize = 1685;
 
 // What is known of a line beside the octets that are held: how many those are, whether there were more than there is room for,
 // whether their number is odd, and whether one was no hex digit.
-pub struct Reading {
+pub struct Begun {
     pub held: usize,
     pub over: bool,
     pub odd: bool,
@@ -33,10 +33,10 @@ pub struct Reading {
 }
 
 // Before the first octet of a line.
-pub fn start() -> Reading
+pub fn start() -> Begun
     ensures { λ r. ⌜ ((held : List ℕ) → Fed [] r held) ⌝ }
 {
-    Reading {
+    Begun {
         held: 0,
         over: false,
         odd: false,
@@ -55,7 +55,7 @@ fn spoilt(bad: bool, c: u8) -> bool
 }
 
 // Feeds the next octet of a line.
-pub fn feed(state: Reading, held: &mut [u8], c: u8) -> Reading
+pub fn feed(state: Begun, held: &mut [u8], c: u8) -> Begun
     ensures { λ r. ⌜ Feeds c state (now (held .entry)) r (now (held .exit)) ⌝ }
 {
     let at = state.held;
@@ -63,14 +63,14 @@ pub fn feed(state: Reading, held: &mut [u8], c: u8) -> Reading
     let bad = spoilt(state.bad, c);
     if at < held.len() {
         held[at] = c;
-        return Reading {
+        return Begun {
             held: at + 1,
             over: state.over,
             odd,
             bad,
         };
     }
-    Reading {
+    Begun {
         held: at,
         over: true,
         odd,
@@ -141,13 +141,7 @@ fn other(s: &[u8], store: &mut [u8], reply: &mut [u8], out: &mut [u8]) -> usize
 }
 
 // Answers the line that was fed, in an output that has room for any line.
-fn read_off(
-    state: Reading,
-    held: &[u8],
-    store: &mut [u8],
-    reply: &mut [u8],
-    out: &mut [u8],
-) -> usize
+fn read_off(state: Begun, held: &[u8], store: &mut [u8], reply: &mut [u8], out: &mut [u8]) -> usize
     requires { ⌜ longestLine ≤ length (now out) ⌝ }
     ensures { λ r. ⌜ ReadOff state (now (held .entry)) (now (store .entry)) (now (reply .entry)) (now (out .entry)) r (now (store .exit)) (now (reply .exit)) (now (out .exit)) ⌝ }
 {
@@ -167,7 +161,7 @@ fn read_off(
 // Answers the line that was fed: the box is called, and what is to be printed stands at the start of the output. Where that has no
 // room for the longest line the box is not called.
 pub fn answer(
-    state: Reading,
+    state: Begun,
     held: &[u8],
     store: &mut [u8],
     reply: &mut [u8],

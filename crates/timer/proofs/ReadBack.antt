@@ -8,7 +8,8 @@ use lib.ListN.{length, take}
 use lib.Seq.{take-all}
 use Rattle.octets.specs.Parts.{part}
 use Rattle.octets.specs.Numbers.{octets, u16At, number, Octets}
-use Rattle.octets.proofs.Each.{All, Octet, octets-number}
+use Rattle.octets.specs.Each.{All, Octet}
+use Rattle.octets.proofs.Each.{octets-number}
 use Rattle.octets.proofs.Numbers.{number-octets, octets-length, octets-part, octets-number as octets-back}
 use Rattle.timer.specs.declared.Timer.{Timer}
 use Rattle.timer.specs.Clock.{timerLegal, timerOctets, timerFrom}

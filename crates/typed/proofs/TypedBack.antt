@@ -9,11 +9,11 @@ use lib.ListN.{length, getD, take}
 use lib.Seq.{drop-append-add}
 use lib.Dec.{lit<}
 use borrow.Author.Tests.{eq-eqb, lt-ltb}
-use Rattle.octets.specs.Parts.{part, rows, concat}
+use Rattle.octets.specs.Parts.{part, rows, joined}
 use Rattle.octets.specs.Numbers.{number, octets, u16At}
 use Rattle.octets.proofs.Numbers.{number-octets}
 use Rattle.octets.proofs.Puts.{put-whole}
-use Rattle.octets.proofs.Rows.{Wide, rows-at, rows-concat, length-concat}
+use Rattle.octets.proofs.Rows.{Wide, rows-at, rows-joined, length-joined}
 use Rattle.timer.specs.declared.Timer.{Timer}
 use Rattle.timer.specs.Clock.{timerLegal, timerOctets, timerFrom}
 use Rattle.timer.proofs.Ranges.{timer-facts}
@@ -54,18 +54,18 @@ sizes-told kind d body p =
 -- ---- 0x22
 
 module _ (rs : List (List ℕ)) (wide : Wide recordWidth rs) (i : ℕ) (h : i < length rs) where
-  row-is : part (recordWidth * i) recordWidth (concat rs) ≡ getD rs i []
+  row-is : part (recordWidth * i) recordWidth (joined rs) ≡ getD rs i []
   row-is =
-      sym (rows-at (length rs) recordWidth i (concat rs) h)
-      ∙ ap (λ (s : List ℕ). getD (rows (length rs) recordWidth s) i []) (sym (put-whole (concat rs) (concat rs) refl))
-      ∙ ap (λ (es : List (List ℕ)). getD es i []) (rows-concat recordWidth rs (concat rs) wide (omega (arith, length-concat recordWidth rs wide)))
+      sym (rows-at (length rs) recordWidth i (joined rs) h)
+      ∙ ap (λ (s : List ℕ). getD (rows (length rs) recordWidth s) i []) (sym (put-whole (joined rs) (joined rs) refl))
+      ∙ ap (λ (es : List (List ℕ)). getD es i []) (rows-joined recordWidth rs (joined rs) wide (omega (arith, length-joined recordWidth rs wide)))
 
   -- the count's two octets stand before it
   record-is : part (2 + i * recordWidth) recordWidth (counted rs) ≡ getD rs i []
   unfolding counted part octets
   record-is =
-      ap (take recordWidth) (drop-append-add (octets 2 (length rs)) (concat rs) (i * recordWidth))
-      ∙ ap (λ (n : ℕ). part n recordWidth (concat rs)) (mul-comm i recordWidth)
+      ap (take recordWidth) (drop-append-add (octets 2 (length rs)) (joined rs) (i * recordWidth))
+      ∙ ap (λ (n : ℕ). part n recordWidth (joined rs)) (mul-comm i recordWidth)
       ∙ row-is
 
   pub record-told : recordTold (counted rs) i ≡ RecordTold.Record (sightingFrom (getD rs i []))

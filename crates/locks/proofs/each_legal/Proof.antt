@@ -4,7 +4,7 @@ use Prim.Native.Nat.{_≤_, _-_}
 use native.Mathlib.Omega.{arith}
 use lib.ListN.{length, take, drop}
 use borrow.Author.Needs.{needs}
-use Rattle.octets.specs.Tests.{all}
+use Rattle.octets.specs.Tests.{allOf}
 use Rattle.locks.specs.Locks.{lockLegal}
 use Rattle.locks.proofs.Sound.{lock-fails, lock-test}
 use Rattle.locks.proofs.Fronts.{each-fails, each-holds, each-end}
@@ -13,7 +13,7 @@ use Rattle.locks.proofs.each_legal.Statement.{statement}
 use Rattle.locks.proofs.each_legal.Tie as tie
 
 abbrev Inv-loop : tie.InvT-loop
-Inv-loop n valid a i₀ i = (i ≤ n) × (n ≤ length a) × (all (lockLegal valid) (take n a) ≡ all (lockLegal valid) (drop i (take n a)))
+Inv-loop n valid a i₀ i = (i ≤ n) × (n ≤ length a) × (allOf (lockLegal valid) (take n a) ≡ allOf (lockLegal valid) (drop i (take n a)))
 
 abbrev μ-loop : tie.MeasureT-loop
 μ-loop n valid a i₀ i = n - i

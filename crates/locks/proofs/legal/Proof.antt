@@ -4,7 +4,7 @@ use mathlib.Core.Path.{_≡_, sym, _∙_, ap}
 use native.Mathlib.Omega.{arith}
 use borrow.Author.Needs.{needs}
 use lib.ListN.{length}
-use Rattle.octets.specs.Tests.{all}
+use Rattle.octets.specs.Tests.{allOf}
 use Rattle.octets.proofs.Tests.{passed, failed}
 use Rattle.locks.specs.Locks.{locksIn, lockLegal, distinct, locksLegal, mostLocks}
 use Rattle.locks.proofs.Stored.{locks-in-length, no-locks}
@@ -17,12 +17,12 @@ few : (c : tie.After-load) → length (locksIn (c .before .before .before .args 
 few c = omega (arith, locks-in-length (c .before .before .before .args .n) (c .before .before .before .args .p .now))
 
 -- what `each_legal` told
-told : (c : tie.After-each-legal) → c .each-legal .result ≡ all (lockLegal (c .before .before .before .before .args .valid)) (locksIn (c .before .before .before .before .args .n) (c .before .before .before .before .args .p .now))
+told : (c : tie.After-each-legal) → c .each-legal .result ≡ allOf (lockLegal (c .before .before .before .before .args .valid)) (locksIn (c .before .before .before .before .args .n) (c .before .before .before .before .args .p .now))
 told c = rw (← c .before .load .ensures) (c .each-legal .ensures)
 
 -- no lock stands
 returns : tie.Need-returns
-unfolding locksLegal all distinct
+unfolding locksLegal allOf distinct
 returns c = rw (no-locks _ (c .before .before .args .p .now) (c .if1 .taken))
 
 returns-2 : tie.Need-returns-2

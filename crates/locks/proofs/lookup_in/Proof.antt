@@ -1,5 +1,5 @@
 -- `locks::lookup_in` meets its contract, by those of its two callees. Assumes nothing.
-use Rattle.locks.specs.Locks.{lookupFrom}
+use Rattle.locks.specs.Locks.{foundFrom}
 use Rattle.locks.proofs.Stored.{no-locks}
 use borrow.Author.Needs.{needs}
 use Rattle.locks.proofs.lookup_in.Statement.{statement}
@@ -7,7 +7,7 @@ use Rattle.locks.proofs.lookup_in.Tie as tie
 
 -- no lock stands
 returns : tie.Need-returns
-unfolding lookupFrom
+unfolding foundFrom
 returns c = rw (no-locks _ (c .before .before .args .p .now) (c .if1 .taken))
 
 returns-2 : tie.Need-returns-2

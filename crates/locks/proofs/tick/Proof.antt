@@ -5,7 +5,7 @@ use mathlib.Core.List.{List}
 use native.Mathlib.Omega.{arith}
 use lib.ListN.{length, take}
 use borrow.Author.Needs.{needs}
-use Rattle.octets.specs.Parts.{put, concat}
+use Rattle.octets.specs.Parts.{put, joined}
 use Rattle.locks.specs.declared.Lock.{Lock}
 use Rattle.locks.specs.Locks.{locksIn, locksOctets, sweptOf}
 use Rattle.locks.proofs.Sweeps.{swept-length, sweep-front}
@@ -15,7 +15,7 @@ use Rattle.locks.proofs.tick.Tie as tie
 
 -- no lock stands
 returns : tie.Need-returns
-unfolding sweptOf locksOctets concat put
+unfolding sweptOf locksOctets joined put
 returns c = rw (no-locks _ (c .before .before .args .p .now) (c .if1 .taken)) (refl, refl)
 
 -- how many are left

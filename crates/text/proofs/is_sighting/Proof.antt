@@ -3,7 +3,7 @@ use mathlib.Core.Path.{_≡_, ap, _∙_}
 use mathlib.Core.Bool.{false}
 use borrow.Author.Tests.{eq-eqb, ne-eqb}
 use Rattle.text.proofs.Values.{rest-of}
-use Rattle.octets.specs.Tests.{all}
+use Rattle.octets.specs.Tests.{allOf}
 use Rattle.octets.proofs.Tests.{passed, failed}
 use Rattle.text.specs.Digits.{decimal, isHex}
 use Rattle.text.specs.Listing.{isSighting}
@@ -34,7 +34,7 @@ returns-4 c =
     let two = three .before .before .before in
     let s = two .before .before .before .before .args .s .now in
     rw (eq-eqb _ 20 (two .before .before .if1 .left), eq-eqb _ 0x73 (two .if2 .left), passed (three .before .between .ensures) (three .if3 .left))
-    (c .all-hex .ensures ∙ ap (all isHex) (rest-of 2 s))
+    (c .all-hex .ensures ∙ ap (allOf isHex) (rest-of 2 s))
 
 pub is-sighting-spec : {M : Type 1} → statement M
 is-sighting-spec =

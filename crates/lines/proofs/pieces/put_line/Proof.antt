@@ -5,7 +5,7 @@ use native.Mathlib.Omega.{arith}
 use borrow.Author.Needs.{needs}
 use lib.ListN.{length, getD, length-take}
 use Rattle.octets.specs.Parts.{part}
-use Rattle.rules.specs.Line.{shown, header, separator, ending, line}
+use Rattle.rules.specs.Line.{shown, heading, separator, ending, line}
 use Rattle.lines.specs.Pieces.{widthOf}
 use Rattle.lines.proofs.Widths.{pieces-length}
 use Rattle.lines.proofs.Marks.{held-inside, held-put}
@@ -14,13 +14,13 @@ use Rattle.lines.proofs.pieces.put_line.Statement.{statement}
 use Rattle.lines.proofs.pieces.put_line.Tie as tie
 
 -- the pieces are as long as the line
-long : (z : tie.Start) → length (header (z .args .block .now)) + length (shown (getD (z .args .block .now) 0 0) (part 0 8 (z .args .sighted .now)))
+long : (z : tie.Start) → length (heading (z .args .block .now)) + length (shown (getD (z .args .block .now) 0 0) (part 0 8 (z .args .sighted .now)))
     + length (separator (z .args .block .now)) + length (shown (getD (z .args .block .now) 0 0) (part 8 4 (z .args .sighted .now))) + length (ending (z .args .block .now))
     ≡ widthOf (z .args .block .now)
 long z = pieces-length (z .args .block .now) (z .args .sighted .now) (z .pre .2)
 
-put-header-requires : tie.Need-put-header-requires
-put-header-requires c κs =
+put-heading-requires : tie.Need-put-heading-requires
+put-heading-requires c κs =
     let z = c .before .before .before .before .before in
     (z .pre .0, z .pre .1, omega (arith, long z))
 
@@ -60,7 +60,7 @@ returns c =
     let sep = held-put _ _ _ _ _ _ (three .before .before .separator-of .ensures) (three .put-mark .ensures .0) (three .put-mark .ensures .1) in
     let end = held-put _ _ _ _ _ _ (five .before .before .ending-of .ensures) (five .put-mark2 .ensures .0) (five .put-mark2 .ensures .1) in (
       omega (arith, long z),
-      five-puts _ _ _ _ _ _ _ _ _ _ _ _ _ _ _ (one .put-header .ensures .1) (one .put-header .ensures .0) (two .put-shown .ensures .1) (two .put-shown .ensures .0)
+      five-puts _ _ _ _ _ _ _ _ _ _ _ _ _ _ _ (one .put-heading .ensures .1) (one .put-heading .ensures .0) (two .put-shown .ensures .1) (two .put-shown .ensures .0)
           (sep .1) (sep .0) (four .put-shown2 .ensures .1) (four .put-shown2 .ensures .0) (end .1),
     )
 
@@ -69,7 +69,7 @@ put-line-spec =
     tie.close
     (tie.spec
     (λ c. search needs)
-    put-header-requires
+    put-heading-requires
     (λ c. simp length-take (omega arith))
     put-shown-requires
     (λ c κs. search needs)

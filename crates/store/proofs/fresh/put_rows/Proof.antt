@@ -3,7 +3,7 @@ use Prim.Native.Nat.{ℕ, _+_, _*_, _-_, _≤_}
 use mathlib.Core.Path.{_≡_, refl, ap, _∙_}
 use native.Mathlib.Omega.{arith}
 use lib.ListN.{length, replicate, length-take, length-drop}
-use Rattle.octets.specs.Parts.{put, concat}
+use Rattle.octets.specs.Parts.{put, joined}
 use Rattle.octets.proofs.Puts.{put-length}
 use Rattle.octets.proofs.Lent.{put-mid}
 use Rattle.store.specs.Layout.{rowWidth}
@@ -14,13 +14,13 @@ use Rattle.store.proofs.fresh.put_rows.Statement.{statement}
 use Rattle.store.proofs.fresh.put_rows.Tie as tie
 
 abbrev Inv-loop : tie.InvT-loop
-Inv-loop s₀ d₀ s d = (d ≤ 8) × (length s ≡ length s₀) × (s ≡ put 6 (concat (replicate d freshRow)) s₀)
+Inv-loop s₀ d₀ s d = (d ≤ 8) × (length s ≡ length s₀) × (s ≡ put 6 (joined (replicate d freshRow)) s₀)
 
 abbrev μ-loop : tie.MeasureT-loop
 μ-loop s₀ d₀ s d = 8 - d
 
 loop-holds : tie.Need-loop-holds Inv-loop μ-loop
-unfolding put concat
+unfolding put joined
 loop-holds c = (omega arith, refl, refl)
 
 fresh-row-requires : tie.Need-fresh-row-requires Inv-loop μ-loop
@@ -43,7 +43,7 @@ returns : tie.Need-returns Inv-loop μ-loop
 returns c =
     let z = c .before in
     let all : z .loop .d ≡ 8 = omega arith in
-    z .loop .inv .2 ∙ ap (λ (k : ℕ). put 6 (concat (replicate k freshRow)) (z .before .before .args .s .now)) all
+    z .loop .inv .2 ∙ ap (λ (k : ℕ). put 6 (joined (replicate k freshRow)) (z .before .before .args .s .now)) all
 
 pub put-rows-spec : {M : Type 1} → statement M
 put-rows-spec =

@@ -3,7 +3,7 @@ use Prim.Native.Nat.{_≤_, _-_}
 use mathlib.Core.Path.{_≡_, refl}
 use native.Mathlib.Omega.{arith}
 use lib.ListN.{length, drop}
-use Rattle.octets.specs.Tests.{all}
+use Rattle.octets.specs.Tests.{allOf}
 use Rattle.octets.proofs.Tests.{passed, failed}
 use Rattle.text.specs.Digits.{isHex}
 use Rattle.text.proofs.Values.{all-end, all-stop, all-go}
@@ -11,7 +11,7 @@ use Rattle.text.proofs.digits.all_hex.Statement.{statement}
 use Rattle.text.proofs.digits.all_hex.Tie as tie
 
 abbrev Inv-loop : tie.InvT-loop
-Inv-loop s i₀ i = (i ≤ length s) × (all isHex s ≡ all isHex (drop i s))
+Inv-loop s i₀ i = (i ≤ length s) × (allOf isHex s ≡ allOf isHex (drop i s))
 
 abbrev μ-loop : tie.MeasureT-loop
 μ-loop s i₀ i = length s - i

@@ -1,24 +1,24 @@
--- `lines::pieces::put_header` meets its contract. Assumes nothing.
+-- `lines::pieces::put_heading` meets its contract. Assumes nothing.
 use Prim.Native.Nat.{ℕ, _+_, _-_, _/_}
 use mathlib.Core.Path.{_≡_, ap, _∙_}
 use native.Mathlib.Omega.{arith}
 use borrow.Author.Needs.{needs}
 use lib.ListN.{getD, take, drop}
 use Rattle.octets.specs.Parts.{part, put}
-use Rattle.rules.specs.Line.{header}
-use Rattle.lines.proofs.pieces.put_header.Statement.{statement}
-use Rattle.lines.proofs.pieces.put_header.Tie as tie
+use Rattle.rules.specs.Line.{heading}
+use Rattle.lines.proofs.pieces.put_heading.Statement.{statement}
+use Rattle.lines.proofs.pieces.put_heading.Tie as tie
 
 returns : tie.Need-returns
-unfolding header part
+unfolding heading part
 returns c =
     let h = c .before .before .before .before .before in
     let a = h .before .before .before .args in
-    let e : 8 + h .header-len .result - 8 ≡ getD (a .block .now) 13 0 / 16 = omega arith in
+    let e : 8 + h .heading-len .result - 8 ≡ getD (a .block .now) 13 0 / 16 = omega arith in
     (omega arith, c .before .before .copy-to .ensures ∙ ap (λ (k : ℕ). put (a .at) (take k (drop 8 (a .block .now))) (a .out .now)) e)
 
-pub put-header-spec : {M : Type 1} → statement M
-put-header-spec =
+pub put-heading-spec : {M : Type 1} → statement M
+put-heading-spec =
     tie.close
     (tie.spec
     (λ c κs. search needs)
