@@ -6,7 +6,7 @@ use mathlib.Core.List.{List, [], _++_}
 use native.Mathlib.Nat.{add-zero}
 use native.Mathlib.Omega.{arith}
 use lib.ListN.{length, take, drop}
-use borrow.Author.Tests.{lt-ltb, le-ltb, leb-false}
+use borrow.Author.Tests.{lt-ltb, le-ltb, le-leb, lt-leb, leb-false}
 use Rattle.octets.specs.Tests.{first}
 use Rattle.octets.specs.Parts.{part, put}
 use Rattle.octets.proofs.Lent.{put-lent}
@@ -15,27 +15,29 @@ use Rattle.frame.specs.declared.Kind.{Kind}
 use Rattle.frame.specs.declared.Way.the-variants.{Request}
 use Rattle.frame.specs.declared.Refusal.the-variants.{NoDesk, OutOfRange, NoRoom}
 use Rattle.frame.specs.declared.Sealed.the-variants.{Octets, Not}
-use Rattle.frame.specs.Shape.{shapeOf, overhead}
+use Rattle.frame.specs.Shape.{overhead, dataAt}
 use Rattle.frame.specs.Sealed.{frameOf, fitsIn, sealedAs, requestIn}
-use Rattle.frame.proofs.Bounds.{lead-small}
 use Rattle.frame.proofs.Room.{by-room, within}
 use Rattle.frame.proofs.Seal.{length-frame}
 use Rattle.rules.specs.declared.Written.the-variants as written
-use Rattle.rules.specs.Box.{noDesk}
+use Rattle.table.specs.Entries.{desks}
+use Rattle.rules.specs.declared.Terms.{Terms}
+use Rattle.rules.specs.Config.{blockSize}
+use Rattle.rules.specs.Control.{termsOf}
 use Rattle.requests.specs.declared.Ask.{Ask}
 use Rattle.requests.specs.declared.Request.{Request as Asked}
-use Rattle.requests.specs.Request.{controlOf, bodyOf, dataFor, requestFrame, inRange}
+use Rattle.requests.specs.Request.{commandOf, controlOf, bodyOf, dataFor, requestFrame, inRange}
 use Rattle.maker.specs.Maker.{makerRefusals, Requested}
 use Rattle.requests.proofs.Asked.{sizeOf, body-size}
 use Rattle.requests.proofs.BoxReads.{request-fits}
 
 -- ---- the data, where it is known what is asked
 
-pub size-as : (a b : Ask) (bytes : List ℕ) → length bytes ≡ 14 → a ≡ b → sizeOf b ≡ length (bodyOf a bytes)
-size-as a b bytes size e = ap sizeOf (sym e) ∙ sym (body-size a bytes size)
+pub size-listed : (q : Asked) (t : Terms) → length (q .bytes) ≡ blockSize → t ≡ termsOf (commandOf (q .ask)) → t .size ≡ length (dataFor q)
+size-listed q t size e = ap (λ (x : Terms). x .size) e ∙ sym (body-size (q .ask) (q .bytes) size)
 
-pub room-as : (a b : Ask) (bytes : List ℕ) (n : ℕ) → length bytes ≡ 14 → length (bodyOf a bytes) ≤ n → a ≡ b → sizeOf b ≤ n
-room-as a b bytes n size h e = omega (arith, size-as a b bytes size e)
+pub room-as : (a b : Ask) (bytes : List ℕ) (n : ℕ) → length bytes ≡ blockSize → length (bodyOf a bytes) ≤ n → a ≡ b → sizeOf b ≤ n
+room-as a b bytes n size h e = rw (← e, ← body-size a bytes size) h
 
 pub data-as : (a b : Ask) (bytes out : List ℕ) → a ≡ b → put 0 (bodyOf b bytes) out ≡ put 0 (bodyOf a bytes) out
 data-as a b bytes out e = ap (λ (x : Ask). put 0 (bodyOf x bytes) out) (sym e)
@@ -51,36 +53,36 @@ unfolding requestFrame
 frame-size q = length-frame (q .kind) (q .desk) (controlOf (q .ask)) (dataFor q)
 
 -- a frame that does not fit is one that has no room: no request is too long
-pub no-room : (q : Asked) (room : ℕ) → length (q .bytes) ≡ 14 → fitsIn Request (q .kind) (length (dataFor q)) room ≡ false → room < length (requestFrame q)
+pub no-room : (q : Asked) (room : ℕ) → length (q .bytes) ≡ blockSize → fitsIn Request (q .kind) (length (dataFor q)) room ≡ false → room < length (requestFrame q)
 no-room q room size e =
     let h : room < overhead Request (q .kind) + length (dataFor q) = leb-false _ _ (by-room Request (q .kind) (length (dataFor q)) room (request-fits q size) ∙ e) in
     omega (arith, frame-size q)
 
 module _ (q : Asked) (out : List ℕ) where
-  pub refused-desk : 7 < q .desk → Requested q out (written.Refused NoDesk) out
-  unfolding makerRefusals first noDesk
-  refused-desk h = record { outcome = rw (lt-ltb 7 (q .desk) h) (refl, refl) }
+  pub refused-desk : desks ≤ q .desk → Requested q out (written.Refused NoDesk) out
+  unfolding makerRefusals first
+  refused-desk h = record { outcome = rw (le-leb desks (q .desk) h) (refl, refl) }
 
-  module _ (low : q .desk ≤ 7) where
+  module _ (low : q .desk < desks) where
     pub refused-range : inRange q ≡ false → Requested q out (written.Refused OutOfRange) out
-    unfolding makerRefusals first noDesk
-    refused-range e = record { outcome = rw (le-ltb 7 (q .desk) low, e) (refl, refl) }
+    unfolding makerRefusals first
+    refused-range e = record { outcome = rw (lt-leb desks (q .desk) low, e) (refl, refl) }
 
     module _ (range : inRange q ≡ true) where
       pub refused-room : length out < length (requestFrame q) → Requested q out (written.Refused NoRoom) out
-      unfolding makerRefusals first noDesk
-      refused-room h = record { outcome = rw (le-ltb 7 (q .desk) low, range, lt-ltb _ _ h) (refl, refl) }
+      unfolding makerRefusals first
+      refused-room h = record { outcome = rw (lt-leb desks (q .desk) low, range, lt-ltb _ _ h) (refl, refl) }
 
       pub made : (n : ℕ) (out′ : List ℕ) → length (requestFrame q) ≤ length out → n ≡ length (requestFrame q) → out′ ≡ put 0 (requestFrame q) out → Requested q out (written.Octets n) out′
-      unfolding makerRefusals first noDesk
-      made n out′ h e o = record { outcome = rw (le-ltb 7 (q .desk) low, range, le-ltb _ _ h) (ap written.Octets e, o) }
+      unfolding makerRefusals first
+      made n out′ h e o = record { outcome = rw (lt-leb desks (q .desk) low, range, le-ltb _ _ h) (ap written.Octets e, o) }
 
 -- ---- the frame around the data
 
 module _ (k : Kind) (adr ctl : ℕ) (body out out′ : List ℕ) (fits : fitsIn Request k (length body) (length out) ≡ true)
-    (there : out′ ≡ put (shapeOf k .lead + 2) body out) where
+    (there : out′ ≡ put (dataAt Request k) body out) where
   fits′ : fitsIn Request k (length body) (length out′) ≡ true
-  fits′ = ap (λ (n : ℕ). fitsIn Request k (length body) n) (ap length there ∙ put-length (shapeOf k .lead + 2) body out) ∙ fits
+  fits′ = ap (λ (n : ℕ). fitsIn Request k (length body) n) (ap length there ∙ put-length (dataAt Request k) body out) ∙ fits
 
   pub request-size : sealedAs Request k (length body) out′ ≡ Octets (length (frameOf k adr ctl body))
   unfolding sealedAs
@@ -89,18 +91,16 @@ module _ (k : Kind) (adr ctl : ℕ) (body out out′ : List ℕ) (fits : fitsIn 
   pub request-octets : requestIn k adr ctl (length body) out′ ≡ put 0 (frameOf k adr ctl body) out
   unfolding requestIn
   request-octets =
-      let at : ℕ = shapeOf k .lead + 2 in
-      let e : shapeOf k .lead + 2 + 0 ≡ at = omega arith in
+      let at : ℕ = dataAt Request k in
       let inside = within Request k (length body) (length out) fits .1 in
-      let here : part (shapeOf k .lead + 2 + 0) (length body) out′ ≡ body =
-      ap (λ (i : ℕ). part i (length body) out′) e ∙ ap (part at (length body)) there ∙ part-put-same at body out (omega arith) in
+      let here : part at (length body) out′ ≡ body = ap (part at (length body)) there ∙ part-put-same at body out (omega arith) in
       rw (fits′, here)
       (ap (put 0 (frameOf k adr ctl body)) there
       ∙ put-over at body 0 (frameOf k adr ctl body) out (omega arith) (omega (arith, length-frame k adr ctl body)))
 
 -- the data were written into the rest of the output that was lent, and the frame sealed around them
-module _ (q : Asked) (out ys : List ℕ) (at len ctl : ℕ) (low : q .desk ≤ 7) (range : inRange q ≡ true) (is : len ≡ length (dataFor q))
-    (fits : fitsIn Request (q .kind) len (length out) ≡ true) (there : at ≡ shapeOf (q .kind) .lead + 2) (asks : ctl ≡ controlOf (q .ask))
+module _ (q : Asked) (out ys : List ℕ) (at len ctl : ℕ) (low : q .desk < desks) (range : inRange q ≡ true) (is : len ≡ length (dataFor q))
+    (fits : fitsIn Request (q .kind) len (length out) ≡ true) (there : at ≡ dataAt Request (q .kind)) (asks : ctl ≡ controlOf (q .ask))
     (lent : ys ≡ put 0 (dataFor q) (take (length out - at) (drop at out))) where
   abbrev written-out : List ℕ
   written-out = take at out ++ (ys ++ drop (length out - at) (drop at out))
@@ -111,7 +111,7 @@ module _ (q : Asked) (out ys : List ℕ) (at len ctl : ℕ) (low : q .desk ≤ 7
   inside : overhead Request (q .kind) + length (dataFor q) ≤ length out
   inside = within Request (q .kind) (length (dataFor q)) (length out) roomy .1
 
-  put-there : written-out ≡ put (shapeOf (q .kind) .lead + 2) (dataFor q) out
+  put-there : written-out ≡ put (dataAt Request (q .kind)) (dataFor q) out
   put-there =
       put-lent at (length out - at) 0 (dataFor q) ys out lent (omega (arith, inside)) (omega (arith, inside))
       ∙ ap (λ (i : ℕ). put i (dataFor q) out) (add-zero at ∙ there)
@@ -134,6 +134,6 @@ module _ (q : Asked) (out ys : List ℕ) (at len ctl : ℕ) (low : q .desk ≤ 7
       let z : _≡_ {A = ℕ} 0 1 = cc in
       omega arith
 
--- how much room there is for the data, by the frame's head
-pub data-room : (k : Kind) (len room lead : ℕ) → fitsIn Request k len room ≡ true → lead ≡ shapeOf k .lead → (lead + 2 + len + 2 ≤ room) × (lead < 256)
-data-room k len room lead e h = (omega (arith, within Request k len room e .1), omega (arith, lead-small k))
+-- how much room there is for the data
+pub data-room : (k : Kind) (len room at : ℕ) → fitsIn Request k len room ≡ true → at ≡ dataAt Request k → at + len + 2 ≤ room
+data-room k len room at e h = omega (arith, within Request k len room e .1)

@@ -4,43 +4,24 @@ use frame::Sealed;
 use frame::Way;
 use requests::Ask;
 use requests::Request;
-use requests::control_of;
 use requests::range::in_range;
+use requests::terms_of;
+use rules::BLOCK;
 use rules::Written;
+use rules::no_desk;
 ghost use mathlib.Core.Path.{_≡_};
 ghost use mathlib.Core.Bool.{true, false};
-ghost use Prim.Native.Nat.{_≤_, _<_};
+ghost use Prim.Native.Nat.{_+_, _≤_, _<_};
 ghost use mathlib.Core.List.{[], _∷_};
 ghost use lib.ListN.{length};
 ghost use Rattle.octets.specs.Parts.{put};
 ghost use Rattle.octets.specs.Numbers.{octets};
 ghost use Rattle.frame.specs.declared.Way.{Way};
 ghost use Rattle.frame.specs.Sealed.{fitsIn};
-ghost use Rattle.rules.specs.Box.{noDesk};
-ghost use Rattle.requests.specs.Request.{fieldsHold, bodyOf, dataFor, inRange};
+ghost use Rattle.table.specs.Entries.{desks};
+ghost use Rattle.rules.specs.Config.{blockSize};
+ghost use Rattle.requests.specs.Request.{controlOf, fieldsHold, bodyOf, dataFor, inRange};
 ghost use Rattle.maker.specs.Maker.{Requested};
-
-// How many octets of data a request has.
-fn size_of(ask: Ask, bytes: [u8; 14]) -> usize
-    ensures { λ r. ⌜ r ≡ length (bodyOf ask bytes) ⌝ }
-{
-    match ask {
-        Ask::Baud(n) => 1,
-        Ask::Reset => 0,
-        Ask::SystemReset => 0,
-        Ask::ReadBlock(adr) => 1,
-        Ask::WriteBlock(adr) => 15,
-        Ask::SaveBlocks(adr) => 1,
-        Ask::RestoreBlocks(adr) => 1,
-        Ask::SetTimer(h, m, ms) => 4,
-        Ask::SendTimer => 0,
-        Ask::Login(password) => 4,
-        Ask::ReadRecords(k) => 2,
-        Ask::SendTable => 0,
-        Ask::RemoveRecords => 0,
-        Ask::ClearRecords => 0,
-    }
-}
 
 // Writes one octet.
 fn put_octet(out: &mut [u8], n: u64)
@@ -51,8 +32,8 @@ fn put_octet(out: &mut [u8], n: u64)
 }
 
 // Writes CFG-ADR and the bytes of a block.
-fn put_block(out: &mut [u8], adr: u64, bytes: [u8; 14])
-    requires { ⌜ (adr < 256) × (15 ≤ length (now out)) ⌝ }
+fn put_block(out: &mut [u8], adr: u64, bytes: [u8; BLOCK])
+    requires { ⌜ (adr < 256) × (1 + blockSize ≤ length (now out)) ⌝ }
     ensures { λ _. ⌜ now (out .exit) ≡ put 0 (adr ∷ bytes) (now (out .entry)) ⌝ }
 {
     out[0] = adr as u8;
@@ -69,29 +50,17 @@ fn put_timer(out: &mut [u8], h: u64, m: u64, ms: u64)
     octets::put16(out, 2, ms as u16);
 }
 
-// The four octets of a password, most significant first.
-fn octets32(n: u64) -> [u8; 4]
-    ensures { λ r. ⌜ r ≡ octets 4 n ⌝ }
-{
-    [
-        (n / 16777216 % 256) as u8,
-        (n / 65536 % 256) as u8,
-        (n / 256 % 256) as u8,
-        (n % 256) as u8,
-    ]
-}
-
 // Writes a password.
 fn put_password(out: &mut [u8], n: u64)
     requires { ⌜ 4 ≤ length (now out) ⌝ }
     ensures { λ _. ⌜ now (out .exit) ≡ put 0 (octets 4 n) (now (out .entry)) ⌝ }
 {
-    let d = octets32(n);
+    let d = octets::octets32(n);
     octets::copy_to(out, 0, &d);
 }
 
 // Writes the data of a request.
-fn put_data(out: &mut [u8], ask: Ask, bytes: [u8; 14])
+fn put_data(out: &mut [u8], ask: Ask, bytes: [u8; BLOCK])
     requires { ⌜ (fieldsHold ask ≡ true) × (length (bodyOf ask bytes) ≤ length (now out)) ⌝ }
     ensures { λ _. ⌜ now (out .exit) ≡ put 0 (bodyOf ask bytes) (now (out .entry)) ⌝ }
 {
@@ -114,16 +83,17 @@ fn put_data(out: &mut [u8], ask: Ask, bytes: [u8; 14])
 }
 
 // Makes the frame where it is known to fit.
-fn put_frame(q: Request, out: &mut [u8], len: usize) -> Written
-    requires { ⌜ (q .desk ≤ 7) × (inRange q ≡ true) × (len ≡ length (dataFor q)) × (fitsIn Way.Request (q .kind) len (length (now out)) ≡ true) ⌝ }
+fn put_frame(q: Request, out: &mut [u8], control: u8, len: usize) -> Written
+    requires { ⌜ (q .desk < desks) × (inRange q ≡ true) × (len ≡ length (dataFor q)) × (control ≡ controlOf (q .ask)) × (fitsIn Way.Request (q .kind) len (length (now out)) ≡ true) ⌝ }
     ensures { λ r. ⌜ Requested q (now (out .entry)) r (now (out .exit)) ⌝ }
 {
     let kind = q.kind;
     let ask = q.ask;
     let bytes = q.bytes;
-    let at = kind.shape().lead + 2;
+    let way = Way::Request;
+    let at = way.data_at(kind);
     put_data(&mut out[at..], ask, bytes);
-    match frame::seal_request(out, kind, q.desk as u8, control_of(ask), len) {
+    match frame::seal_request(out, kind, q.desk as u8, control, len) {
         Sealed::Octets(n) => Written::Octets(n),
         Sealed::Not => Written::Refused(Refusal::NoRoom),
     }
@@ -133,7 +103,7 @@ fn put_frame(q: Request, out: &mut [u8], len: usize) -> Written
 pub fn make(q: Request, out: &mut [u8]) -> Written
     ensures { λ r. ⌜ Requested q (now (out .entry)) r (now (out .exit)) ⌝ }
 {
-    if q.desk > 7 {
+    if no_desk(q.desk) {
         return Written::Refused(Refusal::NoDesk);
     }
     if !in_range(q) {
@@ -141,10 +111,10 @@ pub fn make(q: Request, out: &mut [u8]) -> Written
     }
     let kind = q.kind;
     let ask = q.ask;
-    let bytes = q.bytes;
-    let len = size_of(ask, bytes);
+    let t = terms_of(ask);
+    let len = t.size;
     if !frame::has_room(Way::Request, kind, len, out.len()) {
         return Written::Refused(Refusal::NoRoom);
     }
-    put_frame(q, out, len)
+    put_frame(q, out, t.control, len)
 }

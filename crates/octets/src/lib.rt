@@ -74,6 +74,18 @@ pub fn octets16(v: u16) -> [u8; 2]
     [(v / 256 % 256) as u8, (v % 256) as u8]
 }
 
+// The low four octets of a number, most significant first.
+pub fn octets32(v: u64) -> [u8; 4]
+    ensures { λ r. ⌜ r ≡ octets 4 v ⌝ }
+{
+    [
+        (v / 16777216 % 256) as u8,
+        (v / 65536 % 256) as u8,
+        (v / 256 % 256) as u8,
+        (v % 256) as u8,
+    ]
+}
+
 // The eight octets of a number, most significant first.
 pub fn octets64(v: u64) -> [u8; 8]
     ensures { λ r. ⌜ r ≡ octets 8 v ⌝ }

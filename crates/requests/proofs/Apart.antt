@@ -12,32 +12,34 @@ use Rattle.octets.proofs.Tests.{and-right}
 use borrow.Author.Tests.{ltb-true}
 use Rattle.frame.proofs.Injective.{frame-injective}
 use Rattle.rules.specs.declared.Command.{Command}
-use Rattle.rules.specs.declared.Command.the-variants as command
+use Rattle.rules.specs.declared.Command.the-variants.{OnRow, OnTable}
+use Rattle.rules.specs.declared.RowCommand.the-variants as row
+use Rattle.rules.specs.declared.TableCommand.the-variants as table
 use Rattle.rules.specs.declared.Known.{Known}
 use Rattle.rules.specs.declared.Known.the-variants.{Listed, Unknown}
-use Rattle.rules.specs.Control.{row, known}
+use Rattle.rules.specs.Control.{known}
+use Rattle.rules.proofs.Controls.{control-finds}
 use Rattle.requests.specs.declared.Ask.{Ask}
 use Rattle.requests.specs.declared.Ask.the-variants.{Baud, Reset, SystemReset, ReadBlock, WriteBlock, SaveBlocks, RestoreBlocks, SetTimer, SendTimer, Login, ReadRecords, SendTable, RemoveRecords, ClearRecords}
 use Rattle.requests.specs.declared.Request.{Request}
-use Rattle.requests.specs.Request.{controlOf, bodyOf, fieldsHold, dataFor, requestFrame}
-use Rattle.requests.proofs.Asked.{commandOf, asked-row}
+use Rattle.requests.specs.Request.{commandOf, controlOf, bodyOf, fieldsHold, dataFor, requestFrame}
 
 -- what the data of a command ask
 abbrev askFrom : Command → List ℕ → Ask
-askFrom command.Baud body = Baud (getD body 0 0)
-askFrom command.Reset body = Reset
-askFrom command.SystemReset body = SystemReset
-askFrom command.ReadBlock body = ReadBlock (getD body 0 0)
-askFrom command.WriteBlock body = WriteBlock (getD body 0 0)
-askFrom command.SaveBlocks body = SaveBlocks (getD body 0 0)
-askFrom command.RestoreBlocks body = RestoreBlocks (getD body 0 0)
-askFrom command.SetTimer body = SetTimer (getD body 0 0) (getD body 1 0) (u16At 2 body)
-askFrom command.SendTimer body = SendTimer
-askFrom command.Login body = Login (number body)
-askFrom command.ReadRecords body = ReadRecords (number body)
-askFrom command.SendTable body = SendTable
-askFrom command.RemoveRecords body = RemoveRecords
-askFrom command.ClearRecords body = ClearRecords
+askFrom (OnRow row.Baud) body = Baud (getD body 0 0)
+askFrom (OnRow row.Reset) body = Reset
+askFrom (OnTable table.SystemReset) body = SystemReset
+askFrom (OnRow row.ReadBlock) body = ReadBlock (getD body 0 0)
+askFrom (OnRow row.WriteBlock) body = WriteBlock (getD body 0 0)
+askFrom (OnRow row.SaveBlocks) body = SaveBlocks (getD body 0 0)
+askFrom (OnRow row.RestoreBlocks) body = RestoreBlocks (getD body 0 0)
+askFrom (OnRow row.SetTimer) body = SetTimer (getD body 0 0) (getD body 1 0) (u16At 2 body)
+askFrom (OnRow row.SendTimer) body = SendTimer
+askFrom (OnRow row.Login) body = Login (number body)
+askFrom (OnTable table.ReadRecords) body = ReadRecords (number body)
+askFrom (OnTable table.SendTable) body = SendTable
+askFrom (OnTable table.RemoveRecords) body = RemoveRecords
+askFrom (OnTable table.ClearRecords) body = ClearRecords
 
 ask-back : (a : Ask) (bytes : List ℕ) → fieldsHold a ≡ true → askFrom (commandOf a) (bodyOf a bytes) ≡ a
 unfolding u16At part octets
@@ -58,12 +60,12 @@ ask-back ClearRecords bytes e = refl
 
 -- the command of a known control byte
 commandIn : Known → Command
-commandIn (Listed r) = r .command
-commandIn Unknown = command.Reset
+commandIn (Listed t) = t .command
+commandIn Unknown = OnRow row.Reset
 
 same-command : (a b : Ask) → controlOf a ≡ controlOf b → commandOf a ≡ commandOf b
-unfolding commandIn row
-same-command a b e = ap commandIn (sym (asked-row a) ∙ ap known e ∙ asked-row b)
+unfolding commandIn
+same-command a b e = ap commandIn (sym (control-finds (commandOf a)) ∙ ap known e ∙ control-finds (commandOf b))
 
 -- the fourteen bytes stand in the data of a write; beside other requests they say nothing
 pub same-request : (q p : Request) → fieldsHold (q .ask) ≡ true → fieldsHold (p .ask) ≡ true → requestFrame q ≡ requestFrame p

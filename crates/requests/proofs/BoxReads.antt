@@ -1,5 +1,5 @@
 -- The box reads what the maker made as exactly that request, and does what it says. Assumes nothing.
-use Prim.Native.Nat.{ℕ, _+_, _≤_}
+use Prim.Native.Nat.{ℕ, _+_, _≤_, _<_}
 use mathlib.Core.Path.{_≡_}
 use mathlib.Core.List.{_∷_}
 use native.Mathlib.Omega.{arith}
@@ -10,10 +10,12 @@ use Rattle.frame.specs.declared.Kind.the-variants.{Standard, Advanced}
 use Rattle.frame.specs.declared.Way.the-variants.{Request}
 use Rattle.frame.specs.declared.Frame.{Frame}
 use Rattle.frame.specs.declared.Judged.the-variants.{Sound}
-use Rattle.frame.specs.Shape.{shapeOf, overhead}
+use Rattle.frame.specs.Shape.{shapeOf, replyRoom, overhead}
 use Rattle.frame.specs.Judged.{judged, dataOf}
 use Rattle.frame.specs.Sealed.{frameOf}
 use Rattle.frame.proofs.ReadBack.{madeOf, request-back, request-parts, request-data}
+use Rattle.table.specs.Entries.{desks}
+use Rattle.rules.specs.Config.{blockSize}
 use Rattle.rules.specs.Desk.{Desk}
 use Rattle.rules.specs.Box.{Box, AtDesk, reply, frame, request, served, placed, deskAt, unlessRefused, step}
 use Rattle.rules.proofs.Refusals.{accepted}
@@ -23,7 +25,8 @@ use Rattle.requests.specs.declared.Request.{Request as Asked}
 use Rattle.requests.specs.Request.{controlOf, dataFor, requestFrame}
 use Rattle.requests.proofs.Asked.{sizeOf, body-size, answerTo}
 
-few : (a : Ask) → sizeOf a ≤ 15
+-- no command lists more data than a write
+few : (a : Ask) → sizeOf a ≤ 1 + blockSize
 few (Baud n) = lit≤ tt
 few Reset = lit≤ tt
 few SystemReset = lit≤ tt
@@ -39,7 +42,7 @@ few SendTable = lit≤ tt
 few RemoveRecords = lit≤ tt
 few ClearRecords = lit≤ tt
 
-few-fit : (k : Kind) (n : ℕ) → n ≤ 15 → overhead Request k + n ≤ shapeOf k .longest
+few-fit : (k : Kind) (n : ℕ) → n ≤ 1 + blockSize → overhead Request k + n ≤ shapeOf k .longest
 few-fit Standard n h = omega arith
 few-fit Advanced n h = omega arith
 
@@ -49,7 +52,7 @@ asked q d =
     let r = answerTo q d in
     record { answer = reply (frameOf (q .kind) (q .desk) (controlOf (q .ask)) (r .status ∷ r .sent)); desk = r .desk }
 
-module _ (q : Asked) (size : length (q .bytes) ≡ 14) where
+module _ (q : Asked) (size : length (q .bytes) ≡ blockSize) where
   abbrev pub parts : Frame
   parts = madeOf Request (q .kind) (q .desk) (controlOf (q .ask)) (length (dataFor q))
 
@@ -74,6 +77,6 @@ module _ (q : Asked) (size : length (q .bytes) ≡ 14) where
   box-serves d = rw (box-data, box-reads)
 
   -- so the step does what the request says
-  pub box-steps : (box : Box) (room : ℕ) → q .desk ≤ 7 → 842 ≤ room → step box (frame (requestFrame q) room) ≡ placed box (q .desk) (asked q (deskAt box (q .desk)))
+  pub box-steps : (box : Box) (room : ℕ) → q .desk < desks → replyRoom ≤ room → step box (frame (requestFrame q) room) ≡ placed box (q .desk) (asked q (deskAt box (q .desk)))
   unfolding step unlessRefused
   box-steps box room low enough = rw (accepted (requestFrame q) room enough parts box-judges low, box-reads, box-serves (deskAt box (q .desk)))

@@ -10,9 +10,9 @@ use Rattle.octets.specs.Tests.{first}
 use Rattle.octets.specs.Numbers.{octets, u16At}
 use Rattle.timer.specs.Clock.{timerLegal, timerFrom}
 use Rattle.frame.specs.declared.Kind.{Kind}
-use Rattle.rules.specs.Config.{inEeprom, blockOf, namesOne, namesSome, lineLegal}
+use Rattle.rules.specs.Config.{blockSize, inEeprom, blockOf, namesOne, namesSome, lineLegal}
 use Rattle.rules.specs.Desk.{Desk, withLogin}
-use Rattle.rules.specs.Command.{ownTests, Result, result, done, effect, unless, passwordIs}
+use Rattle.rules.specs.Command.{rowTests, tableTests, Result, result, done, rowEffect, tableEffect, unless, passwordIs}
 use Rattle.rules.specs.Records.{goes, readStatus}
 use Rattle.requests.specs.declared.Ask.{Ask}
 use Rattle.requests.specs.declared.Ask.the-variants.{Baud, Reset, SystemReset, ReadBlock, WriteBlock, SaveBlocks, RestoreBlocks, SetTimer, SendTimer, Login, ReadRecords, SendTable, RemoveRecords, ClearRecords}
@@ -69,7 +69,7 @@ read-not false false = refl
 
 module _ (kind : Kind) (bytes : List ℕ) (d : Desk) where
   own-11 : (desk : ℕ) (a : Ask) → is11 (ownAnswer (record { kind = kind; desk = desk; ask = a; bytes = bytes }) d) ≡ unfit a bytes
-  unfolding ownTests first effect done is11 result readStatus unless
+  unfolding rowTests tableTests first rowEffect tableEffect done is11 result readStatus unless
   own-11 desk (Baud n) = one-test (not (eqb n 0)) d _ refl
   own-11 desk Reset = refl
   own-11 desk SystemReset = refl
@@ -92,19 +92,19 @@ open-login true b e = ap not e
 open-login false b e = refl
 
 -- at every desk where someone is logged in
-pub denied-at : (q : Request) (d : Desk) → length (q .bytes) ≡ 14 → d .loggedIn ≡ true → eqb (answerTo q d .status) 0x11 ≡ unfit (q .ask) (q .bytes)
+pub denied-at : (q : Request) (d : Desk) → length (q .bytes) ≡ blockSize → d .loggedIn ≡ true → eqb (answerTo q d .status) 0x11 ≡ unfit (q .ask) (q .bytes)
 unfolding is11
 denied-at q d size e =
     ap is11 (asked-open q d size (open-login (needsLogin (q .ask)) (d .loggedIn) e)) ∙ own-11 (q .kind) (q .bytes) d (q .desk) (q .ask)
 
-pub denied-is : (q : Request) → length (q .bytes) ≡ 14 → denied q ≡ unfit (q .ask) (q .bytes)
+pub denied-is : (q : Request) → length (q .bytes) ≡ blockSize → denied q ≡ unfit (q .ask) (q .bytes)
 unfolding denied openDesk withLogin
 denied-is q size = denied-at q openDesk size refl
 
 -- so what one of them answers 0x11, all of them do
-pub denied-everywhere : (q : Request) (d : Desk) → length (q .bytes) ≡ 14 → d .loggedIn ≡ true → eqb (answerTo q d .status) 0x11 ≡ denied q
+pub denied-everywhere : (q : Request) (d : Desk) → length (q .bytes) ≡ blockSize → d .loggedIn ≡ true → eqb (answerTo q d .status) 0x11 ≡ denied q
 denied-everywhere q d size e = denied-at q d size e ∙ sym (denied-is q size)
 
 -- what is asked is known
-pub denied-as : (q : Request) (a : Ask) → length (q .bytes) ≡ 14 → q .ask ≡ a → unfit a (q .bytes) ≡ denied q
+pub denied-as : (q : Request) (a : Ask) → length (q .bytes) ≡ blockSize → q .ask ≡ a → unfit a (q .bytes) ≡ denied q
 denied-as q a size e = ap (λ (x : Ask). unfit x (q .bytes)) (sym e) ∙ sym (denied-is q size)

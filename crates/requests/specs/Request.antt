@@ -5,28 +5,40 @@ use mathlib.Core.List.{List, [], _∷_}
 use lib.Dec.{eqb, ltb}
 use Rattle.octets.specs.Numbers.{octets}
 use Rattle.frame.specs.Sealed.{frameOf}
+use Rattle.rules.specs.declared.RowCommand.the-variants as row
+use Rattle.rules.specs.declared.TableCommand.the-variants as table
+use Rattle.rules.specs.declared.Command.{Command}
+use Rattle.rules.specs.declared.Command.the-variants.{OnRow, OnTable}
+use Rattle.rules.specs.Control.{termsOf}
 use Rattle.rules.specs.Desk.{Desk, freshDesk, withLogin}
 use Rattle.rules.specs.Command.{answered}
 use Rattle.requests.specs.declared.Ask.{Ask}
 use Rattle.requests.specs.declared.Ask.the-variants.{Baud, Reset, SystemReset, ReadBlock, WriteBlock, SaveBlocks, RestoreBlocks, SetTimer, SendTimer, Login, ReadRecords, SendTable, RemoveRecords, ClearRecords}
 use Rattle.requests.specs.declared.Request.{Request}
 
--- the control byte
+-- the command that is asked
+abbrev pub commandOf : Ask → Command
+commandOf (Baud n) = OnRow row.Baud
+commandOf Reset = OnRow row.Reset
+commandOf SystemReset = OnTable table.SystemReset
+commandOf (ReadBlock adr) = OnRow row.ReadBlock
+commandOf (WriteBlock adr) = OnRow row.WriteBlock
+commandOf (SaveBlocks adr) = OnRow row.SaveBlocks
+commandOf (RestoreBlocks adr) = OnRow row.RestoreBlocks
+commandOf (SetTimer h min ms) = OnRow row.SetTimer
+commandOf SendTimer = OnRow row.SendTimer
+commandOf (Login password) = OnRow row.Login
+commandOf (ReadRecords k) = OnTable table.ReadRecords
+commandOf SendTable = OnTable table.SendTable
+commandOf RemoveRecords = OnTable table.RemoveRecords
+commandOf ClearRecords = OnTable table.ClearRecords
+
+-- by the command table: its control byte, and whether it is marked L
 abbrev pub controlOf : Ask → ℕ
-controlOf (Baud n) = 0x52
-controlOf Reset = 0x63
-controlOf SystemReset = 0x64
-controlOf (ReadBlock adr) = 0x80
-controlOf (WriteBlock adr) = 0x81
-controlOf (SaveBlocks adr) = 0x82
-controlOf (RestoreBlocks adr) = 0x83
-controlOf (SetTimer h min ms) = 0x85
-controlOf SendTimer = 0x86
-controlOf (Login password) = 0xA0
-controlOf (ReadRecords k) = 0x22
-controlOf SendTable = 0x31
-controlOf RemoveRecords = 0x32
-controlOf ClearRecords = 0x33
+controlOf a = termsOf (commandOf a) .control
+
+abbrev pub needsLogin : Ask → Bool
+needsLogin a = termsOf (commandOf a) .login
 
 -- the data: CFG-ADR, fourteen bytes behind it in a write; h, min and ms; the password; k. Numbers MSB first
 abbrev pub bodyOf : Ask → List ℕ → List ℕ
@@ -61,23 +73,6 @@ fieldsHold (ReadRecords k) = ltb k 65536
 fieldsHold SendTable = true
 fieldsHold RemoveRecords = true
 fieldsHold ClearRecords = true
-
--- the commands marked L
-abbrev pub needsLogin : Ask → Bool
-needsLogin (Baud n) = false
-needsLogin Reset = false
-needsLogin SystemReset = false
-needsLogin (ReadBlock adr) = true
-needsLogin (WriteBlock adr) = true
-needsLogin (SaveBlocks adr) = true
-needsLogin (RestoreBlocks adr) = true
-needsLogin (SetTimer h m ms) = false
-needsLogin SendTimer = false
-needsLogin (Login password) = false
-needsLogin (ReadRecords k) = false
-needsLogin SendTable = false
-needsLogin RemoveRecords = false
-needsLogin ClearRecords = false
 
 -- the octets of the data
 abbrev pub dataFor : Request → List ℕ

@@ -1,7 +1,14 @@
 // What a host asks of a desk.
 use frame::Kind;
+use rules::BLOCK;
+use rules::Command;
+use rules::RowCommand;
+use rules::TableCommand;
+use rules::Terms;
+use rules::control;
 ghost use mathlib.Core.Path.{_≡_};
-ghost use Rattle.requests.specs.Request.{controlOf};
+ghost use Rattle.rules.specs.Control.{termsOf};
+ghost use Rattle.requests.specs.Request.{commandOf};
 
 pub mod range;
 
@@ -29,26 +36,34 @@ pub struct Request {
     pub kind: Kind,
     pub desk: u64,
     pub ask: Ask,
-    pub bytes: [u8; 14],
+    pub bytes: [u8; BLOCK],
 }
 
-pub fn control_of(ask: Ask) -> u8
-    ensures { λ r. ⌜ r ≡ controlOf ask ⌝ }
+// The command that is asked.
+pub fn command_of(ask: Ask) -> Command
+    ensures { λ r. ⌜ r ≡ commandOf ask ⌝ }
 {
     match ask {
-        Ask::Baud(n) => 0x52,
-        Ask::Reset => 0x63,
-        Ask::SystemReset => 0x64,
-        Ask::ReadBlock(adr) => 0x80,
-        Ask::WriteBlock(adr) => 0x81,
-        Ask::SaveBlocks(adr) => 0x82,
-        Ask::RestoreBlocks(adr) => 0x83,
-        Ask::SetTimer(h, m, ms) => 0x85,
-        Ask::SendTimer => 0x86,
-        Ask::Login(password) => 0xA0,
-        Ask::ReadRecords(k) => 0x22,
-        Ask::SendTable => 0x31,
-        Ask::RemoveRecords => 0x32,
-        Ask::ClearRecords => 0x33,
+        Ask::Baud(n) => Command::OnRow(RowCommand::Baud),
+        Ask::Reset => Command::OnRow(RowCommand::Reset),
+        Ask::SystemReset => Command::OnTable(TableCommand::SystemReset),
+        Ask::ReadBlock(adr) => Command::OnRow(RowCommand::ReadBlock),
+        Ask::WriteBlock(adr) => Command::OnRow(RowCommand::WriteBlock),
+        Ask::SaveBlocks(adr) => Command::OnRow(RowCommand::SaveBlocks),
+        Ask::RestoreBlocks(adr) => Command::OnRow(RowCommand::RestoreBlocks),
+        Ask::SetTimer(h, m, ms) => Command::OnRow(RowCommand::SetTimer),
+        Ask::SendTimer => Command::OnRow(RowCommand::SendTimer),
+        Ask::Login(password) => Command::OnRow(RowCommand::Login),
+        Ask::ReadRecords(k) => Command::OnTable(TableCommand::ReadRecords),
+        Ask::SendTable => Command::OnTable(TableCommand::SendTable),
+        Ask::RemoveRecords => Command::OnTable(TableCommand::RemoveRecords),
+        Ask::ClearRecords => Command::OnTable(TableCommand::ClearRecords),
     }
+}
+
+// What the command table lists for it.
+pub fn terms_of(ask: Ask) -> Terms
+    ensures { λ r. ⌜ r ≡ termsOf (commandOf ask) ⌝ }
+{
+    control::terms_of(command_of(ask))
 }

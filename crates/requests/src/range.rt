@@ -1,6 +1,7 @@
 // Whether the values of a request are in range.
 use crate::Ask;
 use crate::Request;
+use rules::BLOCK;
 use rules::adr::block_of;
 use rules::adr::in_eeprom;
 use rules::adr::names_one;
@@ -58,7 +59,7 @@ fn save_denied(adr: u8) -> bool
 }
 
 // What 0x81 answers 0x11.
-fn write_denied(adr: u8, bytes: [u8; 14]) -> bool
+fn write_denied(adr: u8, bytes: [u8; BLOCK]) -> bool
     ensures { λ r. ⌜ r ≡ (not (namesOne adr) || (eqb (blockOf adr) 7 && not (lineLegal bytes))) ⌝ }
 {
     if !names_one(adr) {

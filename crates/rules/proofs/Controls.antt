@@ -7,9 +7,7 @@ use native.Mathlib.Omega.{arith}
 use lib.Dec.{eqb}
 use borrow.Author.Tests.{ne-eqb}
 use Rattle.octets.specs.Each.{All}
-use Rattle.rules.specs.declared.RowCommand.{RowCommand}
 use Rattle.rules.specs.declared.RowCommand.the-variants.{Baud, Reset, ReadBlock, WriteBlock, SaveBlocks, RestoreBlocks, SetTimer, SendTimer, Login}
-use Rattle.rules.specs.declared.TableCommand.{TableCommand}
 use Rattle.rules.specs.declared.TableCommand.the-variants.{SystemReset, ReadRecords, SendTable, RemoveRecords, ClearRecords}
 use Rattle.rules.specs.declared.Command.{Command}
 use Rattle.rules.specs.declared.Command.the-variants.{OnRow, OnTable}
@@ -19,11 +17,8 @@ use Rattle.rules.specs.Control.{termsOf, commands, knownIn, known}
 
 -- ---- the terms of a command that is told
 
-pub row-told : (c x : RowCommand) (r : Terms) → c ≡ x → r ≡ termsOf (OnRow x) → r ≡ termsOf (OnRow c)
-row-told c x r e h = rw e h
-
-pub table-told : (c x : TableCommand) (r : Terms) → c ≡ x → r ≡ termsOf (OnTable x) → r ≡ termsOf (OnTable c)
-table-told c x r e h = rw e h
+pub told : {A : Type 0} (of : A → Command) (c x : A) (r : Terms) → c ≡ x → r ≡ termsOf (of x) → r ≡ termsOf (of c)
+told of c x r e h = rw e h
 
 -- ---- a command's control byte finds its terms
 
@@ -64,24 +59,8 @@ pub found-terms : (control : ℕ) (t : Terms) → known control ≡ Listed t →
 unfolding known knownIn
 found-terms control t e = go commands e
   where
-    own : (c : Command) → termsOf c .command ≡ c
-    own (OnRow Baud) = refl
-    own (OnRow Reset) = refl
-    own (OnRow ReadBlock) = refl
-    own (OnRow WriteBlock) = refl
-    own (OnRow SaveBlocks) = refl
-    own (OnRow RestoreBlocks) = refl
-    own (OnRow SetTimer) = refl
-    own (OnRow SendTimer) = refl
-    own (OnRow Login) = refl
-    own (OnTable SystemReset) = refl
-    own (OnTable ReadRecords) = refl
-    own (OnTable SendTable) = refl
-    own (OnTable RemoveRecords) = refl
-    own (OnTable ClearRecords) = refl
-
     same : (c : Command) → termsOf c ≡ t → t ≡ termsOf (t .command)
-    same c q = subst (λ (x : Terms). x ≡ termsOf (x .command)) q (sym (ap termsOf (own c)))
+    same c q = subst (λ (x : Terms). x ≡ termsOf (x .command)) q refl
 
     turn : (c : Command) (cs : List Command) (b : Bool) → cond b (Listed (termsOf c)) (knownIn cs control) ≡ Listed t
         → (knownIn cs control ≡ Listed t → t ≡ termsOf (t .command)) → t ≡ termsOf (t .command)

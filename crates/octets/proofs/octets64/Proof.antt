@@ -5,35 +5,9 @@ use borrow.Author.Needs.{needs}
 use Rattle.octets.proofs.octets64.Statement.{statement}
 use Rattle.octets.proofs.octets64.Tie as tie
 
-cast-t4 : tie.Need-cast-t4
-cast-t4 c = search needs
-
-cast-t7 : tie.Need-cast-t7
-cast-t7 c = search needs
-
-cast-t10 : tie.Need-cast-t10
-cast-t10 c = search needs
-
-cast-t13 : tie.Need-cast-t13
-cast-t13 c = search needs
-
-cast-t16 : tie.Need-cast-t16
-cast-t16 c = search needs
-
-cast-t19 : tie.Need-cast-t19
-cast-t19 c = search needs
-
-cast-t22 : tie.Need-cast-t22
-cast-t22 c = search needs
-
-cast-t24 : tie.Need-cast-t24
-cast-t24 c = search needs
-
 returns : tie.Need-returns
 unfolding octets
 returns c = simp div-one
 
 pub octets64-spec : {M : Type 1} → statement M
-octets64-spec =
-    tie.close
-    (tie.spec cast-t4 cast-t7 cast-t10 cast-t13 cast-t16 cast-t19 cast-t22 cast-t24 returns)
+octets64-spec = tie.close (tie.spec (λ c. search needs) (λ c. search needs) (λ c. search needs) (λ c. search needs) (λ c. search needs) (λ c. search needs) (λ c. search needs) (λ c. search needs) returns)

@@ -1,9 +1,9 @@
--- `maker::octets32` meets its contract. Assumes nothing.
+-- `octets::octets32` meets its contract. Assumes nothing.
 use native.Mathlib.Nat.{div-one}
 use Rattle.octets.specs.Numbers.{octets}
 use borrow.Author.Needs.{needs}
-use Rattle.maker.proofs.octets32.Statement.{statement}
-use Rattle.maker.proofs.octets32.Tie as tie
+use Rattle.octets.proofs.octets32.Statement.{statement}
+use Rattle.octets.proofs.octets32.Tie as tie
 
 returns : tie.Need-returns
 unfolding octets
