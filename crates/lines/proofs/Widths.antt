@@ -10,7 +10,7 @@ use lib.ListN.{length, getD, length-append}
 use Rattle.octets.specs.Parts.{part}
 use Rattle.octets.proofs.Tests.{both, and-right}
 use Rattle.octets.proofs.Puts.{part-length}
-use Rattle.rules.specs.Config.{useLegal, charLegal, lenLegal, shapeLegal, lineLegal}
+use Rattle.rules.specs.Config.{useLegal, charLegal, lenLegal, shapeLegal, lineLegal, blockSize}
 use Rattle.hex.proofs.Digits.{hex-length}
 use Rattle.rules.specs.Line.{hex, shown, heading, separator, ending, line}
 use Rattle.lines.specs.Pieces.{shownWidth, widthOf}
@@ -24,7 +24,7 @@ nibbles block e =
     let b = both (leb (n / 16) 4) (leb (n % 16) 3) l in
     (leb-true _ _ (b .0), leb-true _ _ (b .1))
 
-pub heading-length : (block : List ℕ) → length block ≡ 14 → lineLegal block ≡ true → length (heading block) ≡ getD block 13 0 / 16
+pub heading-length : (block : List ℕ) → length block ≡ blockSize → lineLegal block ≡ true → length (heading block) ≡ getD block 13 0 / 16
 unfolding heading
 heading-length block l e = part-length 8 (getD block 13 0 / 16) block (omega (arith, nibbles block e .0))
 

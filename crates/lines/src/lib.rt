@@ -2,13 +2,15 @@
 use frame::Refusal;
 use pieces::put_line;
 use pieces::width;
+use rules::BLOCK;
 use rules::Written;
+use table::RECORD;
 ghost use mathlib.Core.Path.{_≡_};
 ghost use mathlib.Core.Bool.{true};
 ghost use Prim.Native.Nat.{_*_, _≤_};
 ghost use lib.ListN.{length};
 ghost use Rattle.octets.specs.Parts.{put};
-ghost use Rattle.rules.specs.Config.{lineLegal};
+ghost use Rattle.rules.specs.Config.{lineLegal, blockSize};
 ghost use Rattle.rules.specs.Line.{line};
 ghost use Rattle.lines.specs.Lines.{Lined, recordsIn, linesOf};
 ghost use Rattle.lines.specs.Pieces.{widthOf};
@@ -17,14 +19,14 @@ mod pieces;
 
 // Whether block 7 follows the rules.
 fn legal(block: &[u8]) -> bool
-    requires { ⌜ length (now block) ≡ 14 ⌝ }
+    requires { ⌜ length (now block) ≡ blockSize ⌝ }
     ensures { λ r. ⌜ r ≡ lineLegal (now (block .entry)) ⌝ }
 {
     rules::shape_legal(block[0], block[1], block[3], block[13])
 }
 
 // Writes the line of one record at the start of what is lent: the part of an output that starts after the last line.
-pub fn line(block: [u8; 14], sighted: [u8; 13], out: &mut [u8]) -> Written
+pub fn line(block: [u8; BLOCK], sighted: [u8; RECORD], out: &mut [u8]) -> Written
     ensures { λ r. ⌜ Lined block (line block sighted) (now (out .entry)) r (now (out .exit)) ⌝ }
 {
     if !legal(&block) {
@@ -45,7 +47,7 @@ fn records(sent: &[u8]) -> usize
 
 // Writes the lines of all m records into an output that has room for them, each into what is left behind the last.
 fn put_lines(block: &[u8], sent: &[u8], m: usize, out: &mut [u8]) -> usize
-    requires { ⌜ (length (now block) ≡ 14) × (lineLegal (now block) ≡ true) × (m ≡ length (recordsIn (now sent))) × (widthOf (now block) * m ≤ length (now out)) ⌝ }
+    requires { ⌜ (length (now block) ≡ blockSize) × (lineLegal (now block) ≡ true) × (m ≡ length (recordsIn (now sent))) × (widthOf (now block) * m ≤ length (now out)) ⌝ }
     ensures { λ r. ⌜ (r ≡ widthOf (now (block .entry)) * m) × (now (out .exit) ≡ put 0 (linesOf (now (block .entry)) (now (sent .entry))) (now (out .entry))) ⌝ }
 {
     let mut at: usize = 0;
@@ -60,7 +62,7 @@ fn put_lines(block: &[u8], sent: &[u8], m: usize, out: &mut [u8]) -> usize
 }
 
 // Writes a line for each record that the data of a 0x22 reply carry, all or none.
-pub fn lines(block: [u8; 14], sent: &[u8], out: &mut [u8]) -> Written
+pub fn lines(block: [u8; BLOCK], sent: &[u8], out: &mut [u8]) -> Written
     ensures { λ r. ⌜ Lined block (linesOf block (now (sent .entry))) (now (out .entry)) r (now (out .exit)) ⌝ }
 {
     if !legal(&block) {

@@ -5,7 +5,7 @@ ghost use mathlib.Core.List.{[], _∷_};
 ghost use Prim.Native.Nat.{_+_, _*_, _/_, _%_, _≤_, _<_, max};
 ghost use lib.ListN.{length, getD};
 ghost use Rattle.octets.specs.Parts.{part, put};
-ghost use Rattle.rules.specs.Config.{lineLegal};
+ghost use Rattle.rules.specs.Config.{lineLegal, blockSize};
 ghost use Rattle.rules.specs.Line.{shown, heading, markOf, separator, ending, line};
 ghost use Rattle.lines.specs.Pieces.{Holds, shownWidth, widthOf};
 
@@ -56,7 +56,7 @@ fn mark_of(char: u8, user: [u8; 3], n: usize) -> Mark
 
 // The separator; the user's is byte 2.
 fn separator_of(block: &[u8]) -> Mark
-    requires { ⌜ length (now block) ≡ 14 ⌝ }
+    requires { ⌜ length (now block) ≡ blockSize ⌝ }
     ensures { λ r. ⌜ Holds r (separator (now (block .entry))) ⌝ }
 {
     mark_of(block[1], [block[2], 0, 0], 1)
@@ -64,7 +64,7 @@ fn separator_of(block: &[u8]) -> Mark
 
 // How many octets the user's end has: the low nibble of LEN-USR, 0 counting as 1.
 fn user_len(block: &[u8]) -> usize
-    requires { ⌜ (length (now block) ≡ 14) × (lineLegal (now block) ≡ true) ⌝ }
+    requires { ⌜ (length (now block) ≡ blockSize) × (lineLegal (now block) ≡ true) ⌝ }
     ensures { λ r. ⌜ (r ≡ max 1 (getD (now (block .entry)) 13 0 % 16)) × (r ≤ 3) ⌝ }
 {
     let low = (block[13] % 16) as usize;
@@ -76,7 +76,7 @@ fn user_len(block: &[u8]) -> usize
 
 // The end; the user's is bytes 4 to 6, or the first of them.
 fn ending_of(block: &[u8]) -> Mark
-    requires { ⌜ (length (now block) ≡ 14) × (lineLegal (now block) ≡ true) ⌝ }
+    requires { ⌜ (length (now block) ≡ blockSize) × (lineLegal (now block) ≡ true) ⌝ }
     ensures { λ r. ⌜ Holds r (ending (now (block .entry))) ⌝ }
 {
     mark_of(block[3], [block[4], block[5], block[6]], user_len(block))
@@ -91,7 +91,7 @@ fn shown_width(usage: u8) -> usize
 
 // How long the heading is: the high nibble of LEN-USR.
 fn heading_len(block: &[u8]) -> usize
-    requires { ⌜ (length (now block) ≡ 14) × (lineLegal (now block) ≡ true) ⌝ }
+    requires { ⌜ (length (now block) ≡ blockSize) × (lineLegal (now block) ≡ true) ⌝ }
     ensures { λ r. ⌜ (r ≡ length (heading (now (block .entry)))) × (r ≡ getD (now (block .entry)) 13 0 / 16) × (r ≤ 4) ⌝ }
 {
     (block[13] / 16) as usize
@@ -99,7 +99,7 @@ fn heading_len(block: &[u8]) -> usize
 
 // How long a line is: it goes by block 7 alone.
 pub fn width(block: &[u8]) -> usize
-    requires { ⌜ (length (now block) ≡ 14) × (lineLegal (now block) ≡ true) ⌝ }
+    requires { ⌜ (length (now block) ≡ blockSize) × (lineLegal (now block) ≡ true) ⌝ }
     ensures { λ r. ⌜ (r ≡ widthOf (now (block .entry))) × (0 < r) ⌝ }
 {
     // UID and timer have twelve octets.
@@ -109,7 +109,7 @@ pub fn width(block: &[u8]) -> usize
 
 // Writes the heading.
 fn put_heading(block: &[u8], out: &mut [u8], at: usize) -> usize
-    requires { ⌜ (length (now block) ≡ 14) × (lineLegal (now block) ≡ true) × (at + length (heading (now block)) ≤ length (now out)) ⌝ }
+    requires { ⌜ (length (now block) ≡ blockSize) × (lineLegal (now block) ≡ true) × (at + length (heading (now block)) ≤ length (now out)) ⌝ }
     ensures { λ r. ⌜ (r ≡ at + length (heading (now (block .entry)))) × (now (out .exit) ≡ put at (heading (now (block .entry))) (now (out .entry))) ⌝ }
 {
     let n = heading_len(block);
@@ -143,7 +143,7 @@ fn put_mark(mark: Mark, out: &mut [u8], at: usize) -> usize
 
 // Writes the line of a record at the start of an output that has room for it.
 pub fn put_line(block: &[u8], sighted: &[u8], out: &mut [u8]) -> usize
-    requires { ⌜ (length (now block) ≡ 14) × (lineLegal (now block) ≡ true) × (12 ≤ length (now sighted)) × (widthOf (now block) ≤ length (now out)) ⌝ }
+    requires { ⌜ (length (now block) ≡ blockSize) × (lineLegal (now block) ≡ true) × (12 ≤ length (now sighted)) × (widthOf (now block) ≤ length (now out)) ⌝ }
     ensures { λ r. ⌜ (r ≡ widthOf (now (block .entry))) × (now (out .exit) ≡ put 0 (line (now (block .entry)) (now (sighted .entry))) (now (out .entry))) ⌝ }
 {
     let usage = block[0];

@@ -7,7 +7,7 @@ use mathlib.Core.Option.{none, some}
 use native.Mathlib.Omega.{arith}
 use lib.ListN.{length, take, length-take, length-append}
 use lib.Dec.{eqb, ltb, lit<}
-use borrow.Author.Tests.{ltb-true, le-ltb, lt-ltb, le-leb, eq-eqb, eqb-false, not-false}
+use borrow.Author.Tests.{ltb-true, le-ltb, lt-ltb, le-leb, eq-eqb, eqb-false, not-false, lt-leb}
 use Rattle.octets.specs.Numbers.{octets, u16At}
 use Rattle.octets.specs.Tests.{first}
 use Rattle.octets.proofs.Tests.{and-left}
@@ -17,11 +17,11 @@ use Rattle.timer.specs.Clock.{timerLegal, timerFrom}
 use Rattle.timer.proofs.ReadBack.{timer-length}
 use Rattle.frame.specs.declared.Kind.{Kind}
 use Rattle.frame.specs.declared.Kind.the-variants.{Standard, Advanced}
-use Rattle.table.specs.Entries.{recordWidth, share}
-use Rattle.rules.specs.Config.{inEeprom, blockOf, namesOne, namesSome, lineLegal}
+use Rattle.table.specs.Entries.{recordWidth, share, desks}
+use Rattle.rules.specs.Config.{inEeprom, blockOf, namesOne, namesSome, lineLegal, blockSize}
 use Rattle.rules.specs.Desk.{Desk, Table, memoryOf}
 use Rattle.rules.specs.Records.{mostSent, goes, readStatus, counted}
-use Rattle.rules.specs.Command.{ownTests, Result, result, done, effect, unless, passwordIs}
+use Rattle.rules.specs.Command.{rowTests, tableTests, Result, result, done, rowEffect, tableEffect, unless, passwordIs}
 use Rattle.rules.specs.Box.{noDesk}
 use Rattle.rules.proofs.Facts.{TableLegal, RecordLegal, DeskLegal}
 use Rattle.rules.proofs.Memories.{length-block}
@@ -113,7 +113,7 @@ k-back k e = two-back k (ltb-true k 65536 e)
 module _ (kind : Kind) (desk : ℕ) (bytes : List ℕ) (d : Desk) (p : DeskLegal d) where
   own-may : (a : Ask) → fieldsHold a ≡ true
       → says (unfit a bytes) (allowed kind a) (ownAnswer (record { kind = kind; desk = desk; ask = a; bytes = bytes }) d) ≡ true
-  unfolding ownTests first effect done unless result plain pair
+  unfolding rowTests tableTests first rowEffect tableEffect done unless result plain pair
   own-may (Baud n) f = one-test d _ (plain 0x00) (not (eqb n 0)) (λ e. refl)
   own-may Reset f = refl
   own-may SystemReset f = refl
@@ -142,7 +142,7 @@ module _ (kind : Kind) (desk : ℕ) (bytes : List ℕ) (d : Desk) (p : DeskLegal
 abbrev pub openMay : Request → ℕ → ℕ → Bool
 openMay q status len = cond (denied q) (plain 0x11 status len) (allowed (q .kind) (q .ask) status len)
 
-module _ (q : Request) (d : Desk) (p : DeskLegal d) (size : length (q .bytes) ≡ 14) (held : fieldsHold (q .ask) ≡ true) where
+module _ (q : Request) (d : Desk) (p : DeskLegal d) (size : length (q .bytes) ≡ blockSize) (held : fieldsHold (q .ask) ≡ true) where
   pub open-may : needsLogin (q .ask) && not (d .loggedIn) ≡ false → openMay q (answerTo q d .status) (length (answerTo q d .sent)) ≡ true
   open-may e = rw (asked-open q d size e, denied-is q size) (own-may (q .kind) (q .desk) (q .bytes) d p (q .ask) held)
 
@@ -154,7 +154,7 @@ module _ (q : Request) (d : Desk) (p : DeskLegal d) (size : length (q .bytes) �
       let len = length (answerTo q d .sent) in
       or-second (needsLogin (q .ask) && plain 0x13 status len) (openMay q status len) (open-may e)
 
-pub answer-possible : (q : Request) (d : Desk) → DeskLegal d → length (q .bytes) ≡ 14 → q .desk ≤ 7 → fieldsHold (q .ask) ≡ true
+pub answer-possible : (q : Request) (d : Desk) → DeskLegal d → length (q .bytes) ≡ blockSize → q .desk < desks → fieldsHold (q .ask) ≡ true
     → possible q (answerTo q d .status) (length (answerTo q d .sent)) ≡ true
-unfolding possible noDesk
-answer-possible q d p size low held = rw (le-ltb 7 (q .desk) low, held) (may-answer q d p size held (needsLogin (q .ask) && not (d .loggedIn)) refl)
+unfolding possible
+answer-possible q d p size low held = rw (lt-leb desks (q .desk) low, held) (may-answer q d p size held (needsLogin (q .ask) && not (d .loggedIn)) refl)

@@ -11,7 +11,7 @@ use Rattle.octets.specs.Numbers.{octets}
 use Rattle.octets.proofs.Tests.{and-left, and-right, both}
 use Rattle.frame.specs.declared.Kind.{Kind}
 use Rattle.table.specs.Entries.{recordWidth, share}
-use Rattle.rules.specs.Config.{blockOf}
+use Rattle.rules.specs.Config.{blockOf, blockSize}
 use Rattle.rules.specs.Desk.{Desk, freshDesk, withLogin, withTable}
 use Rattle.rules.specs.Records.{mostSent}
 use Rattle.rules.specs.Command.{Result, result, passwordIs}
@@ -68,17 +68,17 @@ someone = witness 0 0 false
 someone-legal : DeskLegal someone
 someone-legal = witness-legal 0 false (lit≤ tt) (λ e. cc) 0
 
-someone-may : (q : Request) → length (q .bytes) ≡ 14 → fieldsHold (q .ask) ≡ true → openMay q (answerTo q someone .status) (length (answerTo q someone .sent)) ≡ true
+someone-may : (q : Request) → length (q .bytes) ≡ blockSize → fieldsHold (q .ask) ≡ true → openMay q (answerTo q someone .status) (length (answerTo q someone .sent)) ≡ true
 unfolding witness withLogin
 someone-may q size holds = open-may q someone someone-legal size holds (and-false (needsLogin (q .ask)))
 
 -- it gives 0x11 where that is all that can be
-denied-given : (q : Request) → length (q .bytes) ≡ 14 → fieldsHold (q .ask) ≡ true → denied q ≡ true
+denied-given : (q : Request) → length (q .bytes) ≡ blockSize → fieldsHold (q .ask) ≡ true → denied q ≡ true
     → (status len : ℕ) → plain 0x11 status len ≡ true → Given q status len
 unfolding plain
 denied-given q size holds e status len f = pair-given q someone 0x11 0 status len someone-legal (rw e at (someone-may q size holds)) f
 
-module _ (kind : Kind) (desk : ℕ) (bytes : List ℕ) (size : length bytes ≡ 14) (status len : ℕ) where
+module _ (kind : Kind) (desk : ℕ) (bytes : List ℕ) (size : length bytes ≡ blockSize) (status len : ℕ) where
   -- and where one pair is allowed, that one
   one-given : (a : Ask) (wanted n : ℕ) → ((s l : ℕ) → allowed kind a s l ≡ pair wanted n s l) → fieldsHold a ≡ true → denied (asking kind desk bytes a) ≡ false
       → allowed kind a status len ≡ true → Given (asking kind desk bytes a) status len
@@ -90,7 +90,7 @@ module _ (kind : Kind) (desk : ℕ) (bytes : List ℕ) (size : length bytes ≡ 
       → allowed kind (ReadBlock adr) status len ≡ true → Given (asking kind desk bytes (ReadBlock adr)) status len
   unfolding plain
   block-given adr true z = one-given (ReadBlock adr) 0x15 0 (λ s l. rw z)
-  block-given adr false z = one-given (ReadBlock adr) 0x00 14 (λ s l. rw z)
+  block-given adr false z = one-given (ReadBlock adr) 0x00 blockSize (λ s l. rw z)
 
   -- a login: the right password, or another
   login-given : (password x : ℕ) (b : Bool) → passwordIs (octets 4 password) (witness x 0 false) ≡ b → plain (cond b 0x00 0x14) status len ≡ true
@@ -107,7 +107,7 @@ module _ (kind : Kind) (desk : ℕ) (bytes : List ℕ) (size : length bytes ≡ 
 
 -- ---- 0x22
 
-module _ (kind : Kind) (desk : ℕ) (bytes : List ℕ) (size : length bytes ≡ 14) (k : ℕ) (holds : fieldsHold (ReadRecords k) ≡ true) (some′ : 0 < k) where
+module _ (kind : Kind) (desk : ℕ) (bytes : List ℕ) (size : length bytes ≡ blockSize) (k : ℕ) (holds : fieldsHold (ReadRecords k) ≡ true) (some′ : 0 < k) where
   none-given : (status len : ℕ) → plain 0x92 status len ≡ true → Given (asking kind desk bytes (ReadRecords k)) status len
   unfolding witness withLogin withTable result
   none-given status len e =
@@ -156,7 +156,7 @@ module _ (kind : Kind) (desk : ℕ) (bytes : List ℕ) (size : length bytes ≡ 
 
 -- ---- every request
 
-module _ (kind : Kind) (desk : ℕ) (bytes : List ℕ) (size : length bytes ≡ 14) (status len : ℕ) where
+module _ (kind : Kind) (desk : ℕ) (bytes : List ℕ) (size : length bytes ≡ blockSize) (status len : ℕ) where
   -- k is not 0 where the desk does not answer 0x11
   asks-some : (k : ℕ) → fieldsHold (ReadRecords k) ≡ true → denied (asking kind desk bytes (ReadRecords k)) ≡ false → 0 < k
   asks-some k holds e =
@@ -180,7 +180,7 @@ module _ (kind : Kind) (desk : ℕ) (bytes : List ℕ) (size : length bytes ≡ 
   allowed-given RemoveRecords = one-given kind desk bytes size status len RemoveRecords 0x00 0 (λ s l. refl)
   allowed-given ClearRecords = one-given kind desk bytes size status len ClearRecords 0x00 0 (λ s l. refl)
 
-module _ (q : Request) (status len : ℕ) (size : length (q .bytes) ≡ 14) (holds : fieldsHold (q .ask) ≡ true) where
+module _ (q : Request) (status len : ℕ) (size : length (q .bytes) ≡ blockSize) (holds : fieldsHold (q .ask) ≡ true) where
   -- nobody is logged in at the fresh desk
   barred-given : needsLogin (q .ask) && plain 0x13 status len ≡ true → Given q status len
   unfolding freshDesk result
@@ -197,7 +197,7 @@ module _ (q : Request) (status len : ℕ) (size : length (q .bytes) ≡ 14) (hol
   may-given true e f = barred-given e
   may-given false e f = open-given (denied q) refl f
 
-pub possible-given : (q : Request) (status len : ℕ) → length (q .bytes) ≡ 14 → possible q status len ≡ true → Given q status len
+pub possible-given : (q : Request) (status len : ℕ) → length (q .bytes) ≡ blockSize → possible q status len ≡ true → Given q status len
 unfolding possible mayAnswer
 possible-given q status len size e =
     may-given q status len size (search (and-left, and-right)) (needsLogin (q .ask) && plain 0x13 status len) refl (search (and-left, and-right))

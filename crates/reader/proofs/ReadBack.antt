@@ -8,6 +8,7 @@ use native.Mathlib.Omega.{arith}
 use lib.ListN.{length, take, length-take}
 use lib.Dec.{eqb}
 use borrow.Author.Tests.{eq-eqb}
+use Rattle.rules.specs.Config.{blockSize}
 use Rattle.octets.specs.Parts.{part}
 use Rattle.octets.specs.Numbers.{octets, u16At}
 use Rattle.octets.specs.Tests.{first}
@@ -23,12 +24,12 @@ use Rattle.frame.specs.Judged.{faults, partsOf, dataOf}
 use Rattle.frame.specs.Sealed.{frameOf}
 use Rattle.frame.proofs.ReadBack.{madeOf, reply-back, reply-parts, reply-data, status-back}
 use Rattle.frame.proofs.Verdict.{sound-first}
-use Rattle.table.specs.Entries.{recordWidth}
-use Rattle.rules.specs.declared.Command.the-variants as command
+use Rattle.table.specs.Entries.{recordWidth, desks}
+use Rattle.rules.specs.declared.TableCommand.the-variants as table
 use Rattle.rules.specs.Desk.{Desk}
 use Rattle.rules.specs.Control.{known}
 use Rattle.rules.specs.Records.{goes, counted}
-use Rattle.rules.specs.Command.{Result, result, effect, unless, answered}
+use Rattle.rules.specs.Command.{Result, result, tableEffect, unless, answered}
 use Rattle.rules.proofs.Facts.{RecordLegal, DeskLegal}
 use Rattle.rules.proofs.Replies.{obey-carried}
 use Rattle.requests.specs.declared.Ask.{Ask}
@@ -57,14 +58,14 @@ unfolding unless result countRight
 unless-right control none d r e = e
 unless-right control (some n) d r e = rw (or-true (not (eqb control 0x22)))
 
-read-right : (kind : Kind) (body : List ℕ) (d : Desk) → DeskLegal d → countRight 0x22 (effect command.ReadRecords kind d body .sent) ≡ true
-unfolding effect result
+read-right : (kind : Kind) (body : List ℕ) (d : Desk) → DeskLegal d → countRight 0x22 (tableEffect table.ReadRecords kind d body .sent) ≡ true
+unfolding tableEffect result
 read-right kind body d p =
     let n = goes kind (u16At 0 body) (d .table) in
     let rs = take n (d .table .held) in
     counted-right 0x22 rs (legal-wide rs (all-take RecordLegal n (d .table .held) (p .table .each))) (simp length-take (omega (arith, p .table .few)))
 
-count-holds : (kind : Kind) (desk : ℕ) (bytes : List ℕ) (d : Desk) → length bytes ≡ 14 → DeskLegal d
+count-holds : (kind : Kind) (desk : ℕ) (bytes : List ℕ) (d : Desk) → length bytes ≡ blockSize → DeskLegal d
     → (a : Ask) → countRight (controlOf a) (answerTo (record { kind = kind; desk = desk; ask = a; bytes = bytes }) d .sent) ≡ true
 unfolding countRight
 count-holds kind desk bytes d size p (Baud n) = refl
@@ -135,7 +136,7 @@ module _ (q : Request) (status : ℕ) (sent : List ℕ) where
         let judge = reply-back (q .kind) (q .desk) (controlOf (q .ask)) status sent fits in
         rw (first-none (faults Reply replied) _ (sound-first Reply replied _ judge), replied-answers, replied-told)
 
-pub reply-read : (q : Request) (d : Desk) → DeskLegal d → length (q .bytes) ≡ 14 → q .desk ≤ 7 → fieldsHold (q .ask) ≡ true
+pub reply-read : (q : Request) (d : Desk) → DeskLegal d → length (q .bytes) ≡ blockSize → q .desk < desks → fieldsHold (q .ask) ≡ true
     → let r = answerTo q d in let s = frameOf (q .kind) (q .desk) (controlOf (q .ask)) (r .status ∷ r .sent) in
     (readAs q s ≡ Sound (record { status = r .status; start = shapeOf (q .kind) .lead + 3; len = length (r .sent) }))
     × (part (shapeOf (q .kind) .lead + 3) (length (r .sent)) s ≡ r .sent)

@@ -18,10 +18,10 @@ use Rattle.octets.specs.Each.{Octet}
 use Rattle.octets.proofs.Each.{all-replicate, octets-put, octets-number}
 use Rattle.frame.specs.declared.Kind.{Kind}
 use Rattle.table.specs.Entries.{recordWidth, share}
-use Rattle.rules.specs.Config.{blockAt, lineLegal, defaults}
+use Rattle.rules.specs.Config.{blockAt, lineLegal, defaults, blockSize}
 use Rattle.rules.specs.Desk.{Desk, Table, freshDesk, withMemory, withLogin, withTable}
 use Rattle.rules.specs.Records.{mostSent, goes, readStatus, counted, sentTable}
-use Rattle.rules.specs.Command.{ownTests, result, effect, unless, passwordIs}
+use Rattle.rules.specs.Command.{rowTests, tableTests, result, rowEffect, tableEffect, unless, passwordIs}
 use Rattle.rules.proofs.Facts.{MemoryLegal, RecordLegal, TableLegal, DeskLegal}
 use Rattle.rules.proofs.Memories.{defaults-legal}
 use Rattle.rules.proofs.Legality.{fresh-desk-legal, memory-legal, login-legal, table-legal}
@@ -50,7 +50,7 @@ unfolding keyed blockAt
 keyed-legal x = record {
   size = put-length 0 (octets 4 x) defaults ∙ defaults-legal .size;
   octets = octets-put 0 (octets 4 x) defaults (octets-number 4 x) (defaults-legal .octets);
-  line = ap lineLegal (part-put-away (14 * 7) 14 0 (octets 4 x) defaults (inl (omega (arith, octets-length 4 x)))) ∙ defaults-legal .line;
+  line = ap lineLegal (part-put-away (blockSize * 7) blockSize 0 (octets 4 x) defaults (inl (omega (arith, octets-length 4 x)))) ∙ defaults-legal .line;
 }
 
 zeros-legal : RecordLegal (replicate recordWidth 0)
@@ -110,16 +110,16 @@ module _ (n : ℕ) (mark : Bool) where
 abbrev pub asking : Kind → ℕ → List ℕ → Ask → Request
 asking kind desk bytes a = record { kind = kind; desk = desk; ask = a; bytes = bytes }
 
-module _ (kind : Kind) (desk : ℕ) (bytes : List ℕ) (d : Desk) (size : length bytes ≡ 14) where
+module _ (kind : Kind) (desk : ℕ) (bytes : List ℕ) (d : Desk) (size : length bytes ≡ blockSize) where
   pub login-told : (password : ℕ)
       → answerTo (asking kind desk bytes (Login password)) d
       ≡ result (cond (passwordIs (octets 4 password) d) 0x00 0x14) [] (withLogin (passwordIs (octets 4 password) d) d)
-  unfolding ownTests first unless effect
+  unfolding rowTests tableTests first unless rowEffect tableEffect
   login-told password = asked-open (asking kind desk bytes (Login password)) d size refl
 
   module _ (k : ℕ) (f : fieldsHold (ReadRecords k) ≡ true) (some′ : 0 < k) where
     pub none-told : length (d .table .held) ≡ 0 → answerTo (asking kind desk bytes (ReadRecords k)) d ≡ result 0x92 [] d
-    unfolding ownTests first unless effect
+    unfolding rowTests tableTests first unless rowEffect tableEffect
     none-told e =
         asked-open (asking kind desk bytes (ReadRecords k)) d size refl
         ∙ rw (k-back k f, ne-eqb k 0 (omega arith), eq-eqb (length (d .table .held)) 0 e)
@@ -127,7 +127,7 @@ module _ (kind : Kind) (desk : ℕ) (bytes : List ℕ) (d : Desk) (size : length
     pub read-told : 0 < length (d .table .held)
         → answerTo (asking kind desk bytes (ReadRecords k)) d
         ≡ result (readStatus kind k (d .table)) (counted (take (goes kind k (d .table)) (d .table .held))) (withTable (sentTable (goes kind k (d .table)) (d .table)) d)
-    unfolding ownTests first unless effect
+    unfolding rowTests tableTests first unless rowEffect tableEffect
     read-told h =
         asked-open (asking kind desk bytes (ReadRecords k)) d size refl
         ∙ rw (k-back k f, ne-eqb k 0 (omega arith), ne-eqb (length (d .table .held)) 0 (omega arith))

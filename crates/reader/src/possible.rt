@@ -2,17 +2,20 @@
 use frame::Kind;
 use requests::Ask;
 use requests::Request;
+use requests::needs_login;
 use requests::range::fields_hold;
 use requests::range::is_denied;
+use rules::BLOCK;
 use rules::adr::block_of;
 use rules::most_sent;
+use rules::no_desk;
 use rules::records_for;
 ghost use mathlib.Core.Path.{_≡_};
 ghost use mathlib.Core.Bool.{true, cond, _&&_, _||_};
 ghost use Prim.Native.Nat.{_<_, min};
 ghost use lib.Dec.{eqb};
 ghost use Rattle.table.specs.Entries.{share};
-ghost use Rattle.rules.specs.Config.{blockOf};
+ghost use Rattle.rules.specs.Config.{blockOf, blockSize};
 ghost use Rattle.requests.specs.Request.{fieldsHold, needsLogin};
 ghost use Rattle.reader.specs.Possible.{pair, plain, statusMay, recordsMay, allowed, mayAnswer, possible};
 
@@ -97,12 +100,12 @@ fn read_may(kind: Kind, k: u64, status: u8, len: usize) -> bool
 
 // Whether 0x80 can answer so.
 fn block_may(adr: u8, status: u8, len: usize) -> bool
-    ensures { λ r. ⌜ r ≡ cond (eqb (blockOf adr) 0) (plain 0x15 status len) (pair 0x00 14 status len) ⌝ }
+    ensures { λ r. ⌜ r ≡ cond (eqb (blockOf adr) 0) (plain 0x15 status len) (pair 0x00 blockSize status len) ⌝ }
 {
     if block_of(adr) == 0 {
         return is_plain(0x15, status, len);
     }
-    is_pair(0x00, 14, status, len)
+    is_pair(0x00, BLOCK, status, len)
 }
 
 // Whether 0xA0 can answer so.
@@ -138,28 +141,6 @@ fn is_allowed(kind: Kind, ask: Ask, status: u8, len: usize) -> bool
     }
 }
 
-// Whether the command is marked L.
-fn needs_login(ask: Ask) -> bool
-    ensures { λ r. ⌜ r ≡ needsLogin ask ⌝ }
-{
-    match ask {
-        Ask::Baud(n) => false,
-        Ask::Reset => false,
-        Ask::SystemReset => false,
-        Ask::ReadBlock(adr) => true,
-        Ask::WriteBlock(adr) => true,
-        Ask::SaveBlocks(adr) => true,
-        Ask::RestoreBlocks(adr) => true,
-        Ask::SetTimer(h, m, ms) => false,
-        Ask::SendTimer => false,
-        Ask::Login(password) => false,
-        Ask::ReadRecords(k) => false,
-        Ask::SendTable => false,
-        Ask::RemoveRecords => false,
-        Ask::ClearRecords => false,
-    }
-}
-
 // 0x13 where login is needed.
 fn is_barred(ask: Ask, status: u8, len: usize) -> bool
     ensures { λ r. ⌜ r ≡ (needsLogin ask && plain 0x13 status len) ⌝ }
@@ -190,7 +171,7 @@ fn may_answer(q: Request, status: u8, len: usize) -> bool
 pub fn is_possible(q: Request, status: u8, len: usize) -> bool
     ensures { λ r. ⌜ r ≡ possible q status len ⌝ }
 {
-    if q.desk > 7 {
+    if no_desk(q.desk) {
         return false;
     }
     let ask = q.ask;

@@ -8,7 +8,7 @@ use rules::Terms;
 use rules::control;
 ghost use mathlib.Core.Path.{_≡_};
 ghost use Rattle.rules.specs.Control.{termsOf};
-ghost use Rattle.requests.specs.Request.{commandOf};
+ghost use Rattle.requests.specs.Request.{commandOf, controlOf, needsLogin};
 
 pub mod range;
 
@@ -66,4 +66,17 @@ pub fn terms_of(ask: Ask) -> Terms
     ensures { λ r. ⌜ r ≡ termsOf (commandOf ask) ⌝ }
 {
     control::terms_of(command_of(ask))
+}
+
+pub fn control_of(ask: Ask) -> u8
+    ensures { λ r. ⌜ r ≡ controlOf ask ⌝ }
+{
+    terms_of(ask).control
+}
+
+// Whether the command is marked L.
+pub fn needs_login(ask: Ask) -> bool
+    ensures { λ r. ⌜ r ≡ needsLogin ask ⌝ }
+{
+    terms_of(ask).login
 }

@@ -8,6 +8,7 @@ use lib.Dec.{lit≤}
 use lib.ListN.{length, getD}
 use lib.Seq.{take-all}
 use borrow.Author.Tests.{eq-eqb, lt-ltb}
+use Rattle.rules.specs.Config.{blockSize}
 use Rattle.octets.specs.Parts.{part, put}
 use Rattle.octets.specs.Numbers.{number}
 use Rattle.octets.proofs.Puts.{put-whole, part-part, part-at}
@@ -21,7 +22,7 @@ use Rattle.rules.specs.Records.{recordsFor}
 use Rattle.typed.specs.Typed.{blockTold, timerTold, sightingFrom, recordTold}
 
 -- fourteen bytes, written over zeros
-pub block-said : (sent zeros b : List ℕ) → length sent ≡ 14 → length zeros ≡ 14 → b ≡ put 0 sent zeros → _≡_ {A = Block} (record { there = true; bytes = b }) (blockTold sent)
+pub block-said : (sent zeros b : List ℕ) → length sent ≡ blockSize → length zeros ≡ blockSize → b ≡ put 0 sent zeros → _≡_ {A = Block} (record { there = true; bytes = b }) (blockTold sent)
 unfolding blockTold
 block-said sent zeros b e z h = rw (eq-eqb _ _ e) (ap (λ (x : List ℕ). record { there = true; bytes = x }) (h ∙ put-whole sent zeros (e ∙ sym z)))
 

@@ -9,6 +9,7 @@ use lib.ListN.{length, getD, take}
 use lib.Seq.{drop-append-add}
 use lib.Dec.{lit<}
 use borrow.Author.Tests.{eq-eqb, lt-ltb}
+use Rattle.rules.specs.Config.{blockSize}
 use Rattle.octets.specs.Parts.{part, rows, joined}
 use Rattle.octets.specs.Numbers.{number, octets, u16At}
 use Rattle.octets.proofs.Numbers.{number-octets}
@@ -20,10 +21,10 @@ use Rattle.timer.proofs.Ranges.{timer-facts}
 use Rattle.timer.proofs.ReadBack.{timer-length, timer-back}
 use Rattle.frame.specs.declared.Kind.{Kind}
 use Rattle.table.specs.Entries.{recordWidth, share}
-use Rattle.rules.specs.declared.Command.the-variants.{SendTable}
+use Rattle.rules.specs.declared.TableCommand.the-variants.{SendTable}
 use Rattle.rules.specs.Desk.{Desk}
 use Rattle.rules.specs.Records.{recordOf, counted}
-use Rattle.rules.specs.Command.{result, effect}
+use Rattle.rules.specs.Command.{result, tableEffect}
 use Rattle.rules.proofs.Facts.{TableLegal}
 use Rattle.typed.specs.declared.TimerTold.{TimerTold}
 use Rattle.typed.specs.declared.SizesTold.{SizesTold}
@@ -31,9 +32,9 @@ use Rattle.typed.specs.declared.RecordTold.{RecordTold}
 use Rattle.typed.specs.Typed.{blockTold, timerTold, sizesTold, sightingFrom, recordTold}
 use Rattle.rules.proofs.Counts.{records-back, counted-length}
 
-pub block-told : (bytes : List ℕ) → length bytes ≡ 14 → blockTold bytes ≡ record { there = true; bytes = bytes }
+pub block-told : (bytes : List ℕ) → length bytes ≡ blockSize → blockTold bytes ≡ record { there = true; bytes = bytes }
 unfolding blockTold
-block-told bytes e = rw (eq-eqb (length bytes) 14 e)
+block-told bytes e = rw (eq-eqb (length bytes) blockSize e)
 
 ms-fits : (t : Timer) → timerLegal t ≡ true → t .ms < 65536
 ms-fits t e = omega (arith, timer-facts t e .ms)
@@ -44,8 +45,8 @@ timer-told t e = rw (timer-length t, timer-back t (ms-fits t e))
 
 -- what 0x31 sends
 pub sizes-told : (kind : Kind) (d : Desk) (body : List ℕ) → TableLegal (d .table)
-    → sizesTold (effect SendTable kind d body .sent) ≡ SizesTold.Sizes (record { size = share; start = d .table .start; len = length (d .table .held) })
-unfolding effect result sizesTold u16At part octets
+    → sizesTold (tableEffect SendTable kind d body .sent) ≡ SizesTold.Sizes (record { size = share; start = d .table .start; len = length (d .table .held) })
+unfolding tableEffect result sizesTold u16At part octets
 sizes-told kind d body p =
     let start : number (octets 2 (d .table .start)) ≡ d .table .start = number-octets 2 (d .table .start) (omega (arith, p .start)) in
     let len : number (octets 2 (length (d .table .held))) ≡ length (d .table .held) = number-octets 2 (length (d .table .held)) (omega (arith, p .few)) in

@@ -4,6 +4,7 @@ use mathlib.Core.Bool.{cond}
 use mathlib.Core.List.{List}
 use lib.ListN.{length, getD, replicate}
 use lib.Dec.{eqb, ltb}
+use Rattle.rules.specs.Config.{blockSize}
 use Rattle.octets.specs.Parts.{part}
 use Rattle.octets.specs.Numbers.{number, u16At}
 use Rattle.timer.specs.Clock.{timerFrom}
@@ -18,7 +19,7 @@ use Rattle.rules.specs.Records.{recordsFor}
 
 -- 0x80: fourteen bytes
 unfoldable pub blockTold : List ℕ → Block
-blockTold sent = record { there = eqb (length sent) 14; bytes = cond (eqb (length sent) 14) sent (replicate 14 0) }
+blockTold sent = record { there = eqb (length sent) blockSize; bytes = cond (eqb (length sent) blockSize) sent (replicate blockSize 0) }
 
 -- 0x86: the timer
 unfoldable pub timerTold : List ℕ → TimerTold

@@ -1,5 +1,7 @@
 // What the data of a reply say, for those who want it typed.
+use rules::BLOCK;
 use rules::records_for;
+use table::RECORD;
 use timer::Timer;
 ghost use mathlib.Core.Path.{_≡_};
 ghost use Rattle.typed.specs.Typed.{blockTold, timerTold, sizesTold, recordTold};
@@ -7,7 +9,7 @@ ghost use Rattle.typed.specs.Typed.{blockTold, timerTold, sizesTold, rec
 // The bytes of a block, where they are there.
 pub struct Block {
     pub there: bool,
-    pub bytes: [u8; 14],
+    pub bytes: [u8; BLOCK],
 }
 
 pub enum TimerTold {
@@ -43,8 +45,8 @@ pub enum RecordTold {
 pub fn block_in(sent: &[u8]) -> Block
     ensures { λ r. ⌜ r ≡ blockTold (now (sent .entry)) ⌝ }
 {
-    let mut bytes = [0; 14];
-    if sent.len() != 14 {
+    let mut bytes = [0; BLOCK];
+    if sent.len() != BLOCK {
         return Block {
             there: false,
             bytes: bytes,

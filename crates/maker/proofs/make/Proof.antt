@@ -36,9 +36,13 @@ put-frame-requires c κs =
     let r = c .before .before in
     let t = r .before in
     let d = t .before .before .before in
-    let q = d .before .before .before .args .q in
-    (low d, passed (t .before .before .in-range .ensures) (t .before .if2 .left), size-listed q (t .terms-of .result) (sized d) (t .terms-of .ensures),
-    ap (λ (x : Terms). x .control) (t .terms-of .ensures), passed (r .has-room .ensures) (c .before .if3 .left))
+    let q = d .before .before .before .args .q in (
+      low d,
+      passed (t .before .before .in-range .ensures) (t .before .if2 .left),
+      size-listed q (t .terms-of .result) (sized d) (t .terms-of .ensures),
+      ap (λ (x : Terms). x .control) (t .terms-of .ensures),
+      passed (r .has-room .ensures) (c .before .if3 .left),
+    )
 
 pub make-spec : {M : Type 1} → statement M
 make-spec =
