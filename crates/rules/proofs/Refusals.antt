@@ -10,6 +10,7 @@ use Rattle.frame.specs.declared.Frame.{Frame}
 use Rattle.frame.specs.declared.Refusal.{Refusal}
 use Rattle.frame.specs.declared.Refusal.the-variants.{SmallBuffer, NoDesk, OutOfRange}
 use Rattle.frame.specs.declared.Judged.the-variants.{Refused, Sound}
+use Rattle.frame.specs.Shape.{replyRoom}
 use Rattle.frame.specs.Judged.{faults, judged}
 use Rattle.octets.proofs.Tests.{first-none, first-given}
 use Rattle.frame.proofs.Verdict.{sound-parts, sound-first, refused-first}
@@ -18,23 +19,23 @@ use Rattle.rules.specs.Box.{request, noDesk, frameRefusals, sightingRefu
 -- ---- a frame
 
 module _ (f : List ℕ) (room : ℕ) where
-  pub small-buffer : room < 842 → first (frameRefusals f room) ≡ some SmallBuffer
+  pub small-buffer : room < replyRoom → first (frameRefusals f room) ≡ some SmallBuffer
   unfolding frameRefusals first
-  small-buffer h = rw (lt-ltb room 842 h)
+  small-buffer h = rw (lt-ltb room replyRoom h)
 
-  module _ (enough : 842 ≤ room) where
+  module _ (enough : replyRoom ≤ room) where
     pub judge-refused : (r : Refusal) → judged Request f ≡ Refused r → first (frameRefusals f room) ≡ some r
     unfolding frameRefusals first
-    judge-refused r e = rw (le-ltb room 842 enough) (first-given r (faults Request f) _ (refused-first Request f r e))
+    judge-refused r e = rw (le-ltb room replyRoom enough) (first-given r (faults Request f) _ (refused-first Request f r e))
 
     module _ (p : Frame) (e : judged Request f ≡ Sound p) where
       pub no-desk : 7 < p .address → first (frameRefusals f room) ≡ some NoDesk
       unfolding frameRefusals first noDesk request
-      no-desk h = rw (le-ltb room 842 enough, first-none (faults Request f) ((NoDesk, noDesk (request f .address)) ∷ []) (sound-first Request f p e), ← sound-parts Request f p e, lt-ltb 7 (p .address) h)
+      no-desk h = rw (le-ltb room replyRoom enough, first-none (faults Request f) ((NoDesk, noDesk (request f .address)) ∷ []) (sound-first Request f p e), ← sound-parts Request f p e, lt-ltb 7 (p .address) h)
 
       pub accepted : p .address ≤ 7 → first (frameRefusals f room) ≡ none
       unfolding frameRefusals first noDesk request
-      accepted h = rw (le-ltb room 842 enough, first-none (faults Request f) ((NoDesk, noDesk (request f .address)) ∷ []) (sound-first Request f p e), ← sound-parts Request f p e, le-ltb 7 (p .address) h)
+      accepted h = rw (le-ltb room replyRoom enough, first-none (faults Request f) ((NoDesk, noDesk (request f .address)) ∷ []) (sound-first Request f p e), ← sound-parts Request f p e, le-ltb 7 (p .address) h)
 
 -- ---- a sighting
 

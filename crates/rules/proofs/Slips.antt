@@ -4,6 +4,7 @@ use Prim.Native.Nat.{ℕ}
 use mathlib.Core.List.{List, [], _∷_, _++_}
 use lib.ListN.{replicate}
 use Rattle.frame.specs.declared.Kind.the-variants.{Standard}
+use Rattle.frame.specs.Shape.{replyRoom}
 use Rattle.frame.specs.Sealed.{frameOf}
 use Rattle.octets.specs.Numbers.{octets}
 use Rattle.rules.specs.declared.Seen.the-variants.{Ignored, Recorded}
@@ -12,7 +13,7 @@ use Rattle.rules.proofs.Computed.{computed}
 
 -- a request to desk 0 in a standard frame, with room for the reply; and the reply with its status and data
 abbrev ask : ℕ → List ℕ → Event
-ask control body = frame (frameOf Standard 0 control body) 842
+ask control body = frame (frameOf Standard 0 control body) replyRoom
 
 abbrev told : ℕ → ℕ → List ℕ → Answer
 told control status sent = reply (frameOf Standard 0 control (status ∷ sent))

@@ -11,10 +11,12 @@ use borrow.Author.Tests.{eqb-true}
 use Rattle.octets.specs.Tests.{first}
 use Rattle.octets.proofs.Tests.{and-left, and-right}
 use Rattle.frame.specs.declared.Kind.{Kind}
-use Rattle.rules.specs.Config.{blockOf, namesOne, inEeprom, blockAt, written, lineLegal}
+use Rattle.rules.specs.declared.Command.the-variants.{OnRow}
+use Rattle.rules.specs.declared.RowCommand.the-variants.{WriteBlock}
+use Rattle.rules.specs.Config.{blockSize, blockCount, blockOf, namesOne, inEeprom, blockAt, written, lineLegal}
 use Rattle.rules.specs.Desk.{Desk, memoryOf}
-use Rattle.rules.specs.Control.{row, commands, rowIn, known}
-use Rattle.rules.specs.Command.{adrOf, Result, result, done, ownTests, effect, tests, unless, obey, answered}
+use Rattle.rules.specs.Control.{commands, knownIn, known, sizedFor}
+use Rattle.rules.specs.Command.{adrOf, Result, result, done, rowTests, rowEffect, tests, unless, obey, answered}
 use Rattle.rules.specs.Writes.{writeLegal, writtenDesk}
 use Rattle.rules.proofs.Facts.{DeskLegal}
 use Rattle.rules.proofs.Memories.{block-written, block-kept}
@@ -32,9 +34,9 @@ turned d status h = record { same = refl; none = refl; told = λ e. omega arith 
 
 module _ (kind : Kind) (d : Desk) (body : List ℕ) where
   pub write-accepted : writeLegal d body ≡ true → answered kind d 0x81 body ≡ done (writtenDesk body d)
-  unfolding writeLegal answered known rowIn commands row obey tests first ownTests unless effect writtenDesk
+  unfolding writeLegal answered known knownIn commands obey tests first rowTests unless rowEffect writtenDesk
   write-accepted e =
-      let size : eqb (length body) 15 ≡ true = search (and-left, and-right) in
+      let size : sizedFor (OnRow WriteBlock) body ≡ true = search (and-left, and-right) in
       let login : d .loggedIn ≡ true = search (and-left, and-right) in
       let in′ : not (d .loggedIn) ≡ false = ap not login in
       let one : namesOne (adrOf body) ≡ true = search (and-left, and-right) in
@@ -46,11 +48,11 @@ module _ (kind : Kind) (d : Desk) (body : List ℕ) where
       fits false q = refl
 
   pub write-turned : writeLegal d body ≡ false → Turned d (answered kind d 0x81 body)
-  unfolding writeLegal answered known rowIn commands row obey tests first ownTests unless
+  unfolding writeLegal answered known knownIn commands obey tests first rowTests unless
   write-turned e =
-      go (eqb (length body) 15) (d .loggedIn) (namesOne (adrOf body)) (eqb (blockOf (adrOf body)) 7 && not (lineLegal (drop 1 body))) refl refl refl refl e
+      go (sizedFor (OnRow WriteBlock) body) (d .loggedIn) (namesOne (adrOf body)) (eqb (blockOf (adrOf body)) 7 && not (lineLegal (drop 1 body))) refl refl refl refl e
     where
-      go : (a b c x : Bool) → eqb (length body) 15 ≡ a → d .loggedIn ≡ b → namesOne (adrOf body) ≡ c → (eqb (blockOf (adrOf body)) 7 && not (lineLegal (drop 1 body))) ≡ x
+      go : (a b c x : Bool) → sizedFor (OnRow WriteBlock) body ≡ a → d .loggedIn ≡ b → namesOne (adrOf body) ≡ c → (eqb (blockOf (adrOf body)) 7 && not (lineLegal (drop 1 body))) ≡ x
           → a && b && c && not x ≡ false → Turned d (answered kind d 0x81 body)
       go false b c x p q r t n = rw p (turned d 0x81 (omega arith))
       go true false c x p q r t n = let out : not (d .loggedIn) ≡ true = ap not q in rw (p, out) (turned d 0x13 (omega arith))
@@ -60,12 +62,12 @@ module _ (kind : Kind) (d : Desk) (body : List ℕ) where
 
   -- of an accepted write: the named block holds the bytes, and every other block of that memory is as it was
   module _ (legal : DeskLegal d) (e : writeLegal d body ≡ true) where
-    low : blockOf (adrOf body) < 16
+    low : blockOf (adrOf body) < blockCount
     unfolding writeLegal
     low = names-one (adrOf body) (search (and-left, and-right))
 
-    size : length (drop 1 body) ≡ 14
-    unfolding writeLegal
+    size : length (drop 1 body) ≡ blockSize
+    unfolding writeLegal sizedFor
     size = let n : length body ≡ 15 = eqb-true (length body) 15 (search (and-left, and-right)) in simp length-drop (omega arith)
 
     abbrev memory : List ℕ
