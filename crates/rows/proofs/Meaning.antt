@@ -21,7 +21,7 @@ use Rattle.locks.specs.Locks.{mostLocks, lockWidth, added, sweptOf, locksIn, lo
 use Rattle.locks.proofs.Stored.{LockFits, locks-octets-length, locks-put, locks-in-fit}
 use Rattle.locks.proofs.Sound.{added-fit, swept-fit}
 use Rattle.rules.specs.Config.{blockSize, blockCount, memorySize, blockAt, written, validOf, defaults}
-use Rattle.rules.specs.Desk.{memoryOf, withMemory, withLogin, withTimer, withLocks, withTable, restarted}
+use Rattle.rules.specs.Desk.{memoryOf, withMemory, withValid, withLogin, withTimer, withLocks, withTable, restarted}
 use Rattle.rules.specs.Records.{marked, withRecord, sentTable}
 use Rattle.rules.specs.Sighting.{ticked}
 use Rattle.rules.proofs.Memories.{defaults-legal}
@@ -29,7 +29,7 @@ use Rattle.store.specs.Rows.{ramAt, eepromAt, validAt, timerAt, markAt, startAt
 use Rattle.store.specs.View.{deskOf, deskIn}
 use Rattle.store.proofs.Fields.{field-length}
 use Rattle.rows.specs.Fields.{ramField, eepromField, validField, loginField, timerField, markField, dueField, startField, countField, locksField}
-use Rattle.rows.specs.Change.{Fit, Change, withValid, onTable, closedTable, heldTable}
+use Rattle.rows.specs.Change.{Fit, Change, onTable, closedTable, heldTable}
 use Rattle.rows.specs.Row.{one, loginRow, markedRow, dueRow, closedRow, timerRow, midnightRow, writtenRow, savedRow, allSavedRow, unlockedRow, locksOf, locksRow, lockedRow, sweptRow, steppedRow, tickedRow, loadedRow, validRow, restartedRow, defaultRow, clearedRow, systemRow}
 use Rattle.rows.proofs.Changes.{change-then, change-as, Changes, in-turn, into-change, over-change}
 use Rattle.rows.proofs.Lent.{swept-few, locked-few}
@@ -123,7 +123,7 @@ loaded-change row fit =
     over-change _ row fit ramField (part eepromAt memorySize row) (lit< tt) (part-length eepromAt memorySize row (omega (arith, fit .size))) refl (λ rs. refl)
 
 valid-change : Changes (λ d. withValid (validOf (d .eeprom)) d) validRow
-unfolding validRow deskOf fields field upto validOf blockAt u16At
+unfolding validRow deskOf fields field upto validOf blockAt u16At withValid
 valid-change row fit =
     let at : ℕ = eepromAt + blockSize * 12 in
     over-change _ row fit validField (part at 2 row) (lit< tt) (part-length at 2 row (omega (arith, fit .size))) refl
@@ -132,7 +132,7 @@ valid-change row fit =
 -- ---- one after the other
 
 pub restarted-change : Changes restarted restartedRow
-unfolding restartedRow withMemory withLogin withLocks restarted
+unfolding restartedRow restarted withMemory
 restarted-change = in-turn (in-turn (in-turn loaded-change valid-change) (login-change false)) unlocked-change
 
 pub cleared-change : Changes (λ d. withLocks [] (onTable (closedTable 0) d)) clearedRow

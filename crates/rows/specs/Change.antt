@@ -24,9 +24,6 @@ pub record Change (f : Desk → Desk) (row row′ : List ℕ) : Type 0 where
 
 -- ---- what is done to a desk, where the rules have no word for it
 
-abbrev pub withValid : ℕ → Desk → Desk
-withValid n d = record { ram = d .ram; eeprom = d .eeprom; valid = n; loggedIn = d .loggedIn; timer = d .timer; locks = d .locks; table = d .table }
-
 abbrev pub onTable : (Table → Table) → Desk → Desk
 onTable f d = withTable (f (d .table)) d
 
