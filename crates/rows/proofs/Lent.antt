@@ -1,5 +1,5 @@
 -- The locks of a row, lent to the crate `locks`: as many as fit, and the row with those that came back. Assumes nothing.
-use Prim.Native.Nat.{ℕ, _≤_}
+use Prim.Native.Nat.{_*_, ℕ, _≤_}
 use mathlib.Core.Path.{_≡_}
 use mathlib.Core.List.{List, _++_}
 use native.Mathlib.Omega.{arith}
@@ -8,7 +8,7 @@ use Rattle.octets.specs.Parts.{part, put}
 use Rattle.octets.specs.Numbers.{u16At}
 use Rattle.octets.proofs.Lent.{put-lent}
 use Rattle.locks.specs.declared.Lock.{Lock}
-use Rattle.locks.specs.Locks.{added, sweptOf, locksOctets}
+use Rattle.locks.specs.Locks.{mostLocks, lockWidth, added, sweptOf, locksOctets}
 use Rattle.locks.proofs.Stored.{locks-octets-length, locks-in-length}
 use Rattle.locks.proofs.Sweeps.{swept-length}
 use Rattle.locks.proofs.Sound.{added-few}
@@ -16,25 +16,25 @@ use Rattle.store.specs.Layout.{rowWidth}
 use Rattle.store.specs.Rows.{countAt, locksAt, validAt}
 use Rattle.rows.specs.Row.{locksOf, locksRow, lockedRow}
 
-module _ (row : List ℕ) (few : getD row countAt 0 ≤ 64) where
-  pub swept-few : length (sweptOf (locksOf row)) ≤ 64
-  swept-few = omega (arith, swept-length (locksOf row), locks-in-length (getD row countAt 0) (part locksAt 640 row))
+module _ (row : List ℕ) (few : getD row countAt 0 ≤ mostLocks) where
+  pub swept-few : length (sweptOf (locksOf row)) ≤ mostLocks
+  swept-few = omega (arith, swept-length (locksOf row), locks-in-length (getD row countAt 0) (part locksAt (lockWidth * mostLocks) row))
 
-  pub locked-few : (uid valid : ℕ) → length (added uid valid (locksOf row)) ≤ 64
-  locked-few uid valid = added-few valid uid (locksOf row) (omega (arith, locks-in-length (getD row countAt 0) (part locksAt 640 row)))
+  pub locked-few : (uid valid : ℕ) → length (added uid valid (locksOf row)) ≤ mostLocks
+  locked-few uid valid = added-few valid uid (locksOf row) (omega (arith, locks-in-length (getD row countAt 0) (part locksAt (lockWidth * mostLocks) row)))
 
 -- the part of the locks is back as ys, with these locks in front, and then the count is written
-pub locks-back : (row : List ℕ) (ls : List Lock) (ys : List ℕ) (n : ℕ) → length row ≡ rowWidth → length ls ≤ 64
-    → ys ≡ put 0 (locksOctets ls) (take 640 (drop locksAt row)) → n ≡ length ls
-    → set (take locksAt row ++ (ys ++ drop 640 (drop locksAt row))) countAt n ≡ locksRow ls row
+pub locks-back : (row : List ℕ) (ls : List Lock) (ys : List ℕ) (n : ℕ) → length row ≡ rowWidth → length ls ≤ mostLocks
+    → ys ≡ put 0 (locksOctets ls) (take (lockWidth * mostLocks) (drop locksAt row)) → n ≡ length ls
+    → set (take locksAt row ++ (ys ++ drop (lockWidth * mostLocks) (drop locksAt row))) countAt n ≡ locksRow ls row
 unfolding put
 locks-back row ls ys n size few e h =
-    let l : length (locksOctets ls) ≤ 640 = omega (arith, locks-octets-length ls) in
-    rw (put-lent locksAt 640 0 (locksOctets ls) ys row e (omega arith) (omega arith), h)
+    let l : length (locksOctets ls) ≤ lockWidth * mostLocks = omega (arith, locks-octets-length ls) in
+    rw (put-lent locksAt (lockWidth * mostLocks) 0 (locksOctets ls) ys row e (omega arith) (omega arith), h)
 
 -- the same where a lock of `valid` ticks was added
-pub locked-back : (row : List ℕ) (uid valid : ℕ) (ys : List ℕ) (n : ℕ) → length row ≡ rowWidth → getD row countAt 0 ≤ 64 → valid ≡ u16At validAt row
-    → ys ≡ put 0 (locksOctets (added uid valid (locksOf row))) (take 640 (drop locksAt row)) → n ≡ length (added uid valid (locksOf row))
-    → set (take locksAt row ++ (ys ++ drop 640 (drop locksAt row))) countAt n ≡ lockedRow uid row
+pub locked-back : (row : List ℕ) (uid valid : ℕ) (ys : List ℕ) (n : ℕ) → length row ≡ rowWidth → getD row countAt 0 ≤ mostLocks → valid ≡ u16At validAt row
+    → ys ≡ put 0 (locksOctets (added uid valid (locksOf row))) (take (lockWidth * mostLocks) (drop locksAt row)) → n ≡ length (added uid valid (locksOf row))
+    → set (take locksAt row ++ (ys ++ drop (lockWidth * mostLocks) (drop locksAt row))) countAt n ≡ lockedRow uid row
 unfolding lockedRow
 locked-back row uid valid ys n size few v e h = rw (← v) (locks-back row (added uid valid (locksOf row)) ys n size (locked-few row few uid valid) e h)

@@ -1,4 +1,3 @@
+pub mod Changes
 pub mod Lent
-pub mod Lengths
 pub mod Meaning
-pub mod Flagged

@@ -1,16 +1,15 @@
--- What each change of a row means: the desk that the row says afterwards, as the rules have it. Assumes nothing.
+-- What each change of a row means, as the rules have it. Assumes nothing.
 use Prim.Native.Nat.{ℕ, _+_, _*_, _^_, _≤_, _<_}
-use mathlib.Core.Path.{_≡_, refl, sym, ap, _∙_}
+use mathlib.Core.Path.{_≡_, refl, sym, ap}
 use mathlib.Core.Bool.{Bool, true, false}
 use mathlib.Core.List.{List, [], _∷_, _++_}
-use native.Mathlib.Nat.{zero-add}
 use native.Mathlib.Omega.{arith}
 use lib.Dec.{lit<, lit≤}
 use lib.ListN.{length, getD, replicate}
 use Rattle.octets.specs.Parts.{part, put, rows}
 use Rattle.octets.specs.Numbers.{number, u16At, Octets}
-use Rattle.octets.specs.Areas.{upto, change}
-use Rattle.octets.proofs.Puts.{put-length, part-length, part-part}
+use Rattle.octets.specs.Areas.{upto}
+use Rattle.octets.proofs.Puts.{part-length, part-part, part-put-in}
 use Rattle.octets.proofs.Numbers.{number-one, number-at, u16At-lt, octets-part}
 use Rattle.octets.specs.Each.{All}
 use Rattle.timer.specs.declared.Timer.{Timer}
@@ -18,201 +17,172 @@ use Rattle.timer.specs.Clock.{midnight, stepOf, timerFrom, timerOctets}
 use Rattle.timer.proofs.Ranges.{TimerLegal, timer-facts, step-legal}
 use Rattle.timer.proofs.ReadBack.{timer-length, timer-back}
 use Rattle.locks.specs.declared.Lock.{Lock}
-use Rattle.locks.specs.Locks.{added, sweptOf, locksIn, locksOctets}
+use Rattle.locks.specs.Locks.{mostLocks, lockWidth, added, sweptOf, locksIn, locksOctets}
 use Rattle.locks.proofs.Stored.{LockFits, locks-octets-length, locks-put, locks-in-fit}
 use Rattle.locks.proofs.Sound.{added-fit, swept-fit}
-use Rattle.rules.specs.Config.{blockAt, written, validOf, defaults}
-use Rattle.rules.specs.Desk.{Desk, Table, memoryOf, withMemory, withLogin, withTimer, withLocks, withTable, restarted}
+use Rattle.rules.specs.Config.{blockSize, blockCount, memorySize, blockAt, written, validOf, defaults}
+use Rattle.rules.specs.Desk.{memoryOf, withMemory, withValid, withLogin, withTimer, withLocks, withTable, restarted}
 use Rattle.rules.specs.Records.{marked, withRecord, sentTable}
 use Rattle.rules.specs.Sighting.{ticked}
 use Rattle.rules.proofs.Memories.{defaults-legal}
-use Rattle.store.specs.Layout.{rowWidth}
-use Rattle.store.specs.Rows.{fieldAt, fieldSize, field, fields, countAt, dueAt, locksAt, loginAt, markAt, timerAt, validAt}
+use Rattle.store.specs.Rows.{ramAt, eepromAt, validAt, timerAt, markAt, startAt, countAt, locksAt, field, fields}
 use Rattle.store.specs.View.{deskOf, deskIn}
-use Rattle.store.proofs.Fields.{fields-into, fields-over, field-length}
-use Rattle.rows.specs.Row.{loginRow, markedRow, dueRow, closedRow, timerRow, midnightRow, writtenRow, savedRow, allSavedRow, unlockedRow, locksOf, locksRow, lockedRow, sweptRow, steppedRow, tickedRow, loadedRow, validRow, restartedRow, defaultRow, clearedRow, systemRow}
+use Rattle.store.proofs.Fields.{field-length}
+use Rattle.rows.specs.Fields.{ramField, eepromField, validField, loginField, timerField, markField, dueField, startField, countField, locksField}
+use Rattle.rows.specs.Change.{Fit, Change, onTable, closedTable, heldTable}
+use Rattle.rows.specs.Row.{one, loginRow, markedRow, dueRow, closedRow, timerRow, midnightRow, writtenRow, savedRow, allSavedRow, unlockedRow, locksOf, locksRow, lockedRow, sweptRow, steppedRow, tickedRow, loadedRow, validRow, restartedRow, defaultRow, clearedRow, systemRow}
+use Rattle.rows.proofs.Changes.{change-then, change-as, Changes, in-turn, into-change, over-change}
 use Rattle.rows.proofs.Lent.{swept-few, locked-few}
-use Rattle.rows.proofs.Lengths.{closed-length, restarted-length}
 
--- a put keeps the row's length
-kept : (at : ℕ) (xs row : List ℕ) → length row ≡ rowWidth → length (put at xs row) ≡ rowWidth
-kept at xs row size = put-length at xs row ∙ size
+-- ---- login, mark, removal due, TAB-START, records
 
--- a desk with another VALID-TIME in force
-abbrev withValid : ℕ → Desk → Desk
-withValid n d = record { ram = d .ram; eeprom = d .eeprom; valid = n; loggedIn = d .loggedIn; timer = d .timer; locks = d .locks; table = d .table }
+pub login-change : (b : Bool) → Changes (withLogin b) (loginRow b)
+unfolding loginRow deskOf fields upto number withLogin
+login-change true row fit = over-change (withLogin true) row fit loginField (1 ∷ []) (lit< tt) refl refl (λ rs. refl)
+login-change false row fit = over-change (withLogin false) row fit loginField (0 ∷ []) (lit< tt) refl refl (λ rs. refl)
 
-module _ (row : List ℕ) (size : length row ≡ rowWidth) (rs : List (List ℕ)) where
-  -- the desk, where field k is written over, or a part of it
-  over : (k : ℕ) (xs : List ℕ) → k < 10 → length xs ≡ fieldSize k → deskIn (put (fieldAt k) xs row) rs ≡ deskOf (change k (λ _. xs) (fields row)) rs
-  over k xs l h = ap (λ (fs : List (List ℕ)). deskOf fs rs) (fields-over row size k xs l h)
+pub marked-change : Changes (onTable marked) markedRow
+unfolding markedRow deskOf fields upto number marked withTable
+marked-change row fit = over-change (onTable marked) row fit markField (1 ∷ []) (lit< tt) refl refl (λ rs. refl)
 
-  into : (k o : ℕ) (xs : List ℕ) → k < 10 → o + length xs ≤ fieldSize k → deskIn (put (fieldAt k + o) xs row) rs ≡ deskOf (change k (put o xs) (fields row)) rs
-  into k o xs l h = ap (λ (fs : List (List ℕ)). deskOf fs rs) (fields-into row size k o xs l h)
+pub due-change : (n : ℕ) → Changes (onTable (sentTable n)) (dueRow n)
+unfolding dueRow deskOf fields upto sentTable withTable
+due-change n row fit = over-change (onTable (sentTable n)) row fit dueField (n ∷ []) (lit< tt) refl refl (λ rs. rw number-one)
 
-  -- ---- login, mark, removal due, TAB-START, records
+pub unlocked-change : Changes (withLocks []) unlockedRow
+unfolding unlockedRow deskOf fields upto number locksIn rows withLocks
+unlocked-change row fit = over-change (withLocks []) row fit countField (0 ∷ []) (lit< tt) refl refl (λ rs. refl)
 
-  pub login-means : (b : Bool) → deskIn (loginRow b row) rs ≡ withLogin b (deskIn row rs)
-  unfolding loginRow deskOf fields upto number withLogin
-  login-means true = over 3 _ (lit< tt) refl
-  login-means false = over 3 _ (lit< tt) refl
+-- the mark alone falls; TAB-START alone
+unmarked-change : Changes (onTable (λ t. record { held = t .held; overflow = false; due = t .due; start = t .start })) (one markAt 0)
+unfolding deskOf fields upto number withTable
+unmarked-change row fit = over-change _ row fit markField (0 ∷ []) (lit< tt) refl refl (λ rs. refl)
 
-  pub marked-means : deskIn (markedRow row) rs ≡ withTable (marked (deskIn row rs .table)) (deskIn row rs)
-  unfolding markedRow deskOf fields upto number marked withTable
-  marked-means = over 5 _ (lit< tt) refl
+start-change : (n : ℕ) → Changes (onTable (λ t. record { held = t .held; overflow = t .overflow; due = t .due; start = n })) (one startAt n)
+unfolding deskOf fields upto withTable
+start-change n row fit = over-change _ row fit startField (n ∷ []) (lit< tt) refl refl (λ rs. rw number-one)
 
-  pub due-means : (n : ℕ) → deskIn (dueRow n row) rs ≡ withTable (sentTable n (deskIn row rs .table)) (deskIn row rs)
-  unfolding dueRow deskOf fields upto sentTable withTable
-  due-means n = over 6 (n ∷ []) (lit< tt) refl ∙ rw number-one
+pub closed-change : (start : ℕ) → Changes (onTable (closedTable start)) (closedRow start)
+unfolding closedRow withTable sentTable
+closed-change start = in-turn (in-turn unmarked-change (due-change 0)) (start-change start)
 
-  pub recorded-means : (r : List ℕ) → deskIn row (rs ++ r ∷ []) ≡ withTable (withRecord r (deskIn row rs .table)) (deskIn row rs)
-  unfolding deskOf withRecord withTable
-  recorded-means r = refl
+-- the records are none of the row's octets
+pub held-anew : (row : List ℕ) (rs rs′ : List (List ℕ)) → deskIn row rs′ ≡ onTable (heldTable rs′) (deskIn row rs)
+unfolding deskOf withTable
+held-anew row rs rs′ = refl
 
-  -- ---- the timer
+pub recorded : (row : List ℕ) (rs : List (List ℕ)) (r : List ℕ) → deskIn row (rs ++ r ∷ []) ≡ onTable (withRecord r) (deskIn row rs)
+unfolding deskOf withRecord withTable
+recorded row rs r = refl
 
-  pub timer-means : (body : List ℕ) → length body ≡ 4 → deskIn (timerRow body row) rs ≡ withTimer (timerFrom body) (deskIn row rs)
-  unfolding timerRow deskOf fields upto withTimer
-  timer-means body h = over 4 body (lit< tt) h
+-- ---- the timer
 
-  pub midnight-means : deskIn (midnightRow row) rs ≡ withTimer midnight (deskIn row rs)
-  unfolding midnightRow midnight timerFrom u16At part number
-  midnight-means = timer-means (replicate 4 0) refl
+pub timer-change : (body : List ℕ) → length body ≡ 4 → Changes (withTimer (timerFrom body)) (timerRow body)
+unfolding timerRow deskOf fields upto withTimer
+timer-change body h row fit = over-change (withTimer (timerFrom body)) row fit timerField body (lit< tt) h refl (λ rs. refl)
 
-  pub stepped-means : deskIn (steppedRow row) rs ≡ withTimer (stepOf (deskIn row rs .timer)) (deskIn row rs)
-  unfolding steppedRow deskOf fields field upto
-  stepped-means =
-      let t : Timer = timerFrom (part timerAt 4 row) in
-      let legal : TimerLegal (stepOf t) = timer-facts (stepOf t) (step-legal t) in
-      timer-means (timerOctets (stepOf t)) (timer-length (stepOf t)) ∙ rw (timer-back (stepOf t) (omega arith))
+pub midnight-change : Changes (withTimer midnight) midnightRow
+unfolding midnightRow midnight timerFrom u16At part number
+midnight-change = timer-change (replicate 4 0) refl
 
-  -- ---- the memories
+stepped-change : Changes (λ d. withTimer (stepOf (d .timer)) d) steppedRow
+unfolding steppedRow deskOf fields field upto
+stepped-change row fit =
+    let t : Timer = timerFrom (part timerAt 4 row) in
+    let legal : TimerLegal (stepOf t) = timer-facts (stepOf t) (step-legal t) in
+    change-as (timer-change (timerOctets (stepOf t)) (timer-length (stepOf t)) row fit) (λ rs. rw (timer-back (stepOf t) (omega arith)))
 
-  pub written-means : (eeprom : Bool) (k : ℕ) (bytes : List ℕ) → k < 16 → length bytes ≡ 14
-      → deskIn (writtenRow eeprom k bytes row) rs ≡ withMemory eeprom (written k bytes (memoryOf eeprom (deskIn row rs))) (deskIn row rs)
-  unfolding writtenRow deskOf fields upto memoryOf written withMemory
-  written-means true k bytes l h = into 1 (14 * k) bytes (lit< tt) (omega arith)
-  written-means false k bytes l h = into 0 (14 * k) bytes (lit< tt) (omega arith)
+-- ---- the memories
 
-  pub saved-means : (k : ℕ) → k < 16
-      → deskIn (savedRow k row) rs ≡ withMemory true (written k (blockAt k (deskIn row rs .ram)) (deskIn row rs .eeprom)) (deskIn row rs)
-  unfolding savedRow deskOf fields field upto memoryOf blockAt
-  saved-means k l =
-      written-means true k (part (14 * k) 14 row) l (part-length (14 * k) 14 row (omega arith))
-      ∙ rw (part-part (14 * k) 14 0 224 row (omega arith), zero-add)
+pub written-change : (eeprom : Bool) (k : ℕ) (bytes : List ℕ) → k < blockCount → length bytes ≡ blockSize
+    → Changes (λ d. withMemory eeprom (written k bytes (memoryOf eeprom d)) d) (writtenRow eeprom k bytes)
+unfolding writtenRow deskOf fields upto memoryOf written withMemory
+written-change true k bytes l h row fit = into-change _ row fit eepromField (blockSize * k) bytes (lit< tt) (omega arith) refl (λ rs. refl)
+written-change false k bytes l h row fit = into-change _ row fit ramField (blockSize * k) bytes (lit< tt) (omega arith) refl (λ rs. refl)
 
-  pub all-saved-means : deskIn (allSavedRow row) rs ≡ withMemory true (deskIn row rs .ram) (deskIn row rs)
-  unfolding allSavedRow deskOf fields field upto withMemory
-  all-saved-means = over 1 (part 0 224 row) (lit< tt) (part-length 0 224 row (omega arith))
+pub saved-change : (k : ℕ) → k < blockCount → Changes (λ d. withMemory true (written k (blockAt k (d .ram)) (d .eeprom)) d) (savedRow k)
+unfolding savedRow deskOf fields field upto memoryOf blockAt
+saved-change k l row fit =
+    let bytes : List ℕ = part (ramAt + blockSize * k) blockSize row in
+    change-as (written-change true k bytes l (part-length (ramAt + blockSize * k) blockSize row (omega (arith, fit .size))) row fit)
+    (λ rs. rw (part-part (blockSize * k) blockSize ramAt memorySize row (omega arith)))
 
-  pub default-means : (eeprom : Bool) → deskIn (defaultRow eeprom row) rs ≡ withMemory eeprom defaults (deskIn row rs)
-  unfolding defaultRow deskOf fields upto withMemory
-  default-means true = over 1 defaults (lit< tt) (defaults-legal .size)
-  default-means false = over 0 defaults (lit< tt) (defaults-legal .size)
+pub all-saved-change : Changes (λ d. withMemory true (d .ram) d) allSavedRow
+unfolding allSavedRow deskOf fields field upto withMemory
+all-saved-change row fit =
+    over-change _ row fit eepromField (part ramAt memorySize row) (lit< tt) (part-length ramAt memorySize row (omega (arith, fit .size))) refl (λ rs. refl)
 
-  loaded-means : deskIn (loadedRow row) rs ≡ withMemory false (deskIn row rs .eeprom) (deskIn row rs)
-  unfolding loadedRow deskOf fields field upto withMemory
-  loaded-means = over 0 (part 224 224 row) (lit< tt) (part-length 224 224 row (omega arith))
+pub default-change : (eeprom : Bool) → Changes (withMemory eeprom defaults) (defaultRow eeprom)
+unfolding defaultRow deskOf fields upto withMemory
+default-change true row fit = over-change (withMemory true defaults) row fit eepromField defaults (lit< tt) (defaults-legal .size) refl (λ rs. refl)
+default-change false row fit = over-change (withMemory false defaults) row fit ramField defaults (lit< tt) (defaults-legal .size) refl (λ rs. refl)
 
-  valid-means : deskIn (validRow row) rs ≡ withValid (validOf (deskIn row rs .eeprom)) (deskIn row rs)
-  unfolding validRow deskOf fields field upto validOf blockAt u16At
-  valid-means =
-      over 2 (part 392 2 row) (lit< tt) (part-length 392 2 row (omega arith))
-      ∙ rw (part-part 0 2 168 14 (part 224 224 row) (lit≤ tt), part-part 168 2 224 224 row (lit≤ tt))
+loaded-change : Changes (λ d. withMemory false (d .eeprom) d) loadedRow
+unfolding loadedRow deskOf fields field upto withMemory
+loaded-change row fit =
+    over-change _ row fit ramField (part eepromAt memorySize row) (lit< tt) (part-length eepromAt memorySize row (omega (arith, fit .size))) refl (λ rs. refl)
 
-  -- ---- the locks
+valid-change : Changes (λ d. withValid (validOf (d .eeprom)) d) validRow
+unfolding validRow deskOf fields field upto validOf blockAt u16At withValid
+valid-change row fit =
+    let at : ℕ = eepromAt + blockSize * 12 in
+    over-change _ row fit validField (part at 2 row) (lit< tt) (part-length at 2 row (omega (arith, fit .size))) refl
+    (λ rs. rw (part-part 0 2 (blockSize * 12) blockSize (part eepromAt memorySize row) (lit≤ tt), part-part (blockSize * 12) 2 eepromAt memorySize row (lit≤ tt)))
 
-  pub unlocked-means : deskIn (unlockedRow row) rs ≡ withLocks [] (deskIn row rs)
-  unfolding unlockedRow deskOf fields upto number locksIn rows withLocks
-  unlocked-means = over 8 _ (lit< tt) refl
+-- ---- one after the other
 
--- ---- two fields and more: one change after the other
+pub restarted-change : Changes restarted restartedRow
+unfolding restartedRow restarted withMemory
+restarted-change = in-turn (in-turn (in-turn loaded-change valid-change) (login-change false)) unlocked-change
 
-module _ (row : List ℕ) (size : length row ≡ rowWidth) (rs : List (List ℕ)) where
-  -- with any records: the caller removes them
-  pub closed-means : (start : ℕ) (rs′ : List (List ℕ))
-      → deskIn (closedRow start row) rs′ ≡ withTable (record { held = rs′; overflow = false; due = 0; start = start }) (deskIn row rs)
-  unfolding closedRow dueRow deskOf fields upto withTable
-  closed-means start rs′ =
-      let one : List ℕ = put markAt (0 ∷ []) row in
-      let two : List ℕ = put dueAt (0 ∷ []) one in
-      ap (λ (fs : List (List ℕ)). deskOf fs rs′)
-      (fields-over two (kept dueAt (0 ∷ []) one (kept markAt (0 ∷ []) row size)) 7 (start ∷ []) (lit< tt) refl
-      ∙ ap (change 7 (λ _. start ∷ [])) (fields-over one (kept markAt (0 ∷ []) row size) 6 (0 ∷ []) (lit< tt) refl
-      ∙ ap (change 6 (λ _. 0 ∷ [])) (fields-over row size 5 (0 ∷ []) (lit< tt) refl)))
-      ∙ rw (number-one 0, number-one start)
+pub cleared-change : Changes (λ d. withLocks [] (onTable (closedTable 0) d)) clearedRow
+unfolding clearedRow
+cleared-change = in-turn (closed-change 0) unlocked-change
 
-  pub restarted-means : deskIn (restartedRow row) rs ≡ restarted (deskIn row rs)
-  unfolding restartedRow loadedRow validRow loginRow withMemory withLogin withLocks restarted
-  restarted-means =
-      let one : List ℕ = loadedRow row in
-      let two : List ℕ = validRow one in
-      let three : List ℕ = loginRow false two in
-      let l : length one ≡ rowWidth = kept 0 (part 224 224 row) row size in
-      let m : length two ≡ rowWidth = kept validAt (part 392 2 one) one l in
-      unlocked-means three (kept loginAt (0 ∷ []) two m) rs
-      ∙ ap (withLocks []) (login-means two m rs false
-      ∙ ap (withLogin false) (valid-means one l rs
-      ∙ ap (λ (d : Desk). withValid (validOf (d .eeprom)) d) (loaded-means row size rs)))
+pub system-change : Changes (λ d. withTimer midnight (onTable (closedTable 0) (restarted d))) systemRow
+unfolding systemRow
+system-change = in-turn (in-turn restarted-change (closed-change 0)) midnight-change
 
--- what is left where all records go
-abbrev pub noneHeld : List (List ℕ) → Table
-noneHeld rs = record { held = rs; overflow = false; due = 0; start = 0 }
+-- ---- the locks, and a tick
 
-module _ (row : List ℕ) (size : length row ≡ rowWidth) (rs : List (List ℕ)) where
-  pub cleared-means : deskIn (clearedRow row) rs ≡ withLocks [] (withTable (noneHeld rs) (deskIn row rs))
-  unfolding clearedRow
-  cleared-means =
-      unlocked-means (closedRow 0 row) (closed-length 0 row ∙ size) rs ∙ ap (withLocks []) (closed-means row size rs 0 rs)
+module _ (row : List ℕ) (fit : Fit row) where
+  -- their octets, and then their count
+  locks-change : (ls : List Lock) → All LockFits ls → length ls ≤ mostLocks → Change (withLocks ls) row (locksRow ls row)
+  unfolding deskOf fields field upto withLocks
+  locks-change ls legal few =
+      let row′ : List ℕ = put locksAt (locksOctets ls) row in
+      let size : length (locksOctets ls) ≡ lockWidth * length ls = locks-octets-length ls in
+      let p : Change (withLocks (locksIn (number (field row countField)) (put 0 (locksOctets ls) (field row locksField)))) row row′ =
+      into-change _ row fit locksField 0 (locksOctets ls) (lit< tt) (omega arith) refl (λ rs. refl)
+      in
+      let q : Change (withLocks (locksIn (length ls) (field row′ locksField))) row′ (locksRow ls row) =
+      over-change _ row′ (p .fit) countField (length ls ∷ []) (lit< tt) refl refl (λ rs. rw number-one)
+      in
+      change-as (change-then p q)
+      (λ rs. rw (part-put-in locksAt (lockWidth * mostLocks) 0 (locksOctets ls) row (omega arith), locks-put ls (field row locksField) legal (omega (arith, field-length row (fit .size) locksField (lit< tt)))))
 
-  pub system-means : deskIn (systemRow row) rs ≡ withTimer midnight (withTable (noneHeld rs) (restarted (deskIn row rs)))
-  unfolding systemRow
-  system-means =
-      let one : List ℕ = restartedRow row in
-      let l : length one ≡ rowWidth = restarted-length row ∙ size in
-      midnight-means (closedRow 0 one) (closed-length 0 one ∙ l) rs
-      ∙ ap (withTimer midnight) (closed-means one l rs 0 rs ∙ ap (withTable (noneHeld rs)) (restarted-means row size rs))
+  module _ (octet : Octets row) (few : getD row countAt 0 ≤ mostLocks) where
+    -- the locks of the row are those of its desk
+    locks-of : (rs : List (List ℕ)) → locksOf row ≡ deskIn row rs .locks
+    unfolding deskOf fields field upto
+    locks-of rs = ap (λ (n : ℕ). locksIn n (part locksAt (lockWidth * mostLocks) row)) (sym (number-at countAt row))
 
--- ---- the locks and the timer
+    legal : All LockFits (locksOf row)
+    legal = locks-in-fit (getD row countAt 0) (part locksAt (lockWidth * mostLocks) row) (octets-part locksAt (lockWidth * mostLocks) row octet)
+        (omega (arith, part-length locksAt (lockWidth * mostLocks) row (omega (arith, fit .size))))
 
-module _ (row : List ℕ) (size : length row ≡ rowWidth) (rs : List (List ℕ)) where
-  -- the locks of the row are those of its desk
-  locks-of : locksOf row ≡ deskIn row rs .locks
-  unfolding deskOf fields field upto
-  locks-of = ap (λ (n : ℕ). locksIn n (part locksAt 640 row)) (sym (number-at countAt row))
-
-  valid-of : u16At validAt row ≡ deskIn row rs .valid
-  unfolding deskOf fields field upto u16At
-  valid-of = refl
-
-  locks-mean : (ls : List Lock) → All LockFits ls → length ls ≤ 64 → deskIn (locksRow ls row) rs ≡ withLocks ls (deskIn row rs)
-  unfolding deskOf fields upto withLocks
-  locks-mean ls fit few =
-      let one : List ℕ = put locksAt (locksOctets ls) row in
-      let l : length (field row 9) ≡ 640 = field-length row size 9 (lit< tt) in
-      over one (kept locksAt (locksOctets ls) row size) rs 8 (length ls ∷ []) (lit< tt) refl
-      ∙ ap (λ (fs : List (List ℕ)). deskOf (change 8 (λ _. length ls ∷ []) fs) rs) (fields-into row size 9 0 (locksOctets ls) (lit< tt) (omega (arith, locks-octets-length ls)))
-      ∙ rw (number-one, locks-put ls (field row 9) fit (omega arith))
-
-  module _ (octet : Octets row) (few : getD row countAt 0 ≤ 64) where
-    fit : All LockFits (locksOf row)
-    fit = locks-in-fit (getD row countAt 0) (part locksAt 640 row) (octets-part locksAt 640 row octet) (omega (arith, part-length locksAt 640 row (omega arith)))
-
-    pub locked-means : (uid : ℕ) → uid < 2 ^ 64 → deskIn (lockedRow uid row) rs ≡ withLocks (added uid (deskIn row rs .valid) (deskIn row rs .locks)) (deskIn row rs)
-    unfolding lockedRow
-    locked-means uid h =
+    pub locked-change : (uid : ℕ) → uid < 2 ^ 64 → Change (λ d. withLocks (added uid (d .valid) (d .locks)) d) row (lockedRow uid row)
+    unfolding lockedRow deskOf fields field upto u16At
+    locked-change uid h =
         let valid : ℕ = u16At validAt row in
-        let v : valid < 65536 = u16At-lt validAt row octet (omega arith) in
-        locks-mean (added uid valid (locksOf row)) (added-fit valid uid (locksOf row) (record { uid = h; left = v }) fit) (locked-few row few uid valid)
-        ∙ rw (← valid-of, ← locks-of)
+        let v : valid < 65536 = u16At-lt validAt row octet (omega (arith, fit .size)) in
+        change-as (locks-change (added uid valid (locksOf row)) (added-fit valid uid (locksOf row) (record { uid = h; left = v }) legal) (locked-few row few uid valid))
+        (λ rs. rw (locks-of rs))
 
-    pub swept-means : deskIn (sweptRow row) rs ≡ withLocks (sweptOf (deskIn row rs .locks)) (deskIn row rs)
+    swept-change : Change (λ d. withLocks (sweptOf (d .locks)) d) row (sweptRow row)
     unfolding sweptRow
-    swept-means = locks-mean (sweptOf (locksOf row)) (swept-fit (locksOf row) fit) (swept-few row few) ∙ rw (← locks-of)
+    swept-change = change-as (locks-change (sweptOf (locksOf row)) (swept-fit (locksOf row) legal) (swept-few row few)) (λ rs. rw (locks-of rs))
 
-    pub ticked-means : deskIn (tickedRow row) rs ≡ ticked (deskIn row rs)
-    unfolding tickedRow sweptRow ticked withLocks
-    ticked-means =
-        let ls : List Lock = sweptOf (locksOf row) in
-        stepped-means (sweptRow row) (kept countAt (length ls ∷ []) (put locksAt (locksOctets ls) row) (kept locksAt (locksOctets ls) row size)) rs
-        ∙ ap (λ (d : Desk). withTimer (stepOf (d .timer)) d) swept-means
+    pub ticked-change : Change ticked row (tickedRow row)
+    unfolding tickedRow ticked withLocks
+    ticked-change = change-then swept-change (stepped-change (sweptRow row) (swept-change .fit))

@@ -6,10 +6,10 @@ use lib.ListN.{length, getD, replicate}
 use Rattle.octets.specs.Parts.{part, put}
 use Rattle.octets.specs.Numbers.{u16At}
 use Rattle.timer.specs.Clock.{stepOf, timerOctets, timerFrom}
-use Rattle.rules.specs.Config.{defaults}
+use Rattle.rules.specs.Config.{blockSize, memorySize, defaults}
 use Rattle.store.specs.Rows.{ramAt, eepromAt, validAt, loginAt, timerAt, markAt, dueAt, startAt, countAt, locksAt}
 use Rattle.locks.specs.declared.Lock.{Lock}
-use Rattle.locks.specs.Locks.{added, sweptOf, locksIn, locksOctets}
+use Rattle.locks.specs.Locks.{mostLocks, lockWidth, added, sweptOf, locksIn, locksOctets}
 
 -- one octet is written
 abbrev pub one : ℕ → ℕ → List ℕ → List ℕ
@@ -45,14 +45,14 @@ abbrev pub memoryAt : Bool → ℕ
 memoryAt eeprom = cond eeprom eepromAt ramAt
 
 unfoldable pub writtenRow : Bool → ℕ → List ℕ → List ℕ → List ℕ
-writtenRow eeprom k bytes row = put (memoryAt eeprom + 14 * k) bytes row
+writtenRow eeprom k bytes row = put (memoryAt eeprom + blockSize * k) bytes row
 
 -- block k of EEPROM, or all blocks, from RAM
 unfoldable pub savedRow : ℕ → List ℕ → List ℕ
-savedRow k row = writtenRow true k (part (14 * k) 14 row) row
+savedRow k row = writtenRow true k (part (ramAt + blockSize * k) blockSize row) row
 
 unfoldable pub allSavedRow : List ℕ → List ℕ
-allSavedRow row = put eepromAt (part ramAt 224 row) row
+allSavedRow row = put eepromAt (part ramAt memorySize row) row
 
 -- ---- the locks
 
@@ -61,7 +61,7 @@ unlockedRow row = one countAt 0 row
 
 -- the locks that a row says
 abbrev pub locksOf : List ℕ → List Lock
-locksOf row = locksIn (getD row countAt 0) (part locksAt 640 row)
+locksOf row = locksIn (getD row countAt 0) (part locksAt (lockWidth * mostLocks) row)
 
 -- the locks are these
 abbrev pub locksRow : List Lock → List ℕ → List ℕ
@@ -85,11 +85,11 @@ tickedRow row = steppedRow (sweptRow row)
 
 -- RAM from EEPROM
 unfoldable pub loadedRow : List ℕ → List ℕ
-loadedRow row = put ramAt (part eepromAt 224 row) row
+loadedRow row = put ramAt (part eepromAt memorySize row) row
 
 -- VALID-TIME in force from EEPROM block 12
 unfoldable pub validRow : List ℕ → List ℕ
-validRow row = put validAt (part (eepromAt + 14 * 12) 2 row) row
+validRow row = put validAt (part (eepromAt + blockSize * 12) 2 row) row
 
 -- both; logged out, no locks
 unfoldable pub restartedRow : List ℕ → List ℕ

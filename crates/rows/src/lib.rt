@@ -1,4 +1,6 @@
 // What is done to the row of one desk: each function promises its octets by a definition of specs/Row.
+use rules::BLOCK;
+use rules::MEMORY;
 use store::DUE;
 use store::EEPROM;
 use store::LOCKED;
@@ -12,17 +14,14 @@ ghost use mathlib.Core.Path.{_≡_};
 ghost use mathlib.Core.Bool.{cond};
 ghost use Prim.Native.Nat.{_≤_, _<_};
 ghost use lib.ListN.{length, getD};
+ghost use Rattle.locks.specs.Locks.{mostLocks};
 ghost use Rattle.store.specs.Layout.{rowWidth};
 ghost use Rattle.store.specs.Rows.{countAt};
 ghost use Rattle.rows.specs.Row.{restartedRow, midnightRow, unlockedRow, closedRow, markedRow, dueRow, loginRow, timerRow, memoryAt, writtenRow, savedRow, allSavedRow, lockedRow, sweptRow, steppedRow, tickedRow, defaultRow, clearedRow, systemRow};
-ghost use Rattle.rules.specs.Config.{blockAt, defaults};
+ghost use Rattle.rules.specs.Config.{blockSize, blockCount, memorySize, blockAt, defaults};
 
-// RAM is the first field; the octets of a memory and of a block.
+// RAM is the first field.
 const RAM: usize = 0;
-
-const MEMORY: usize = 224;
-
-const BLOCK: usize = 14;
 
 // No locks stand.
 pub fn clear_locks(row: &mut [u8])
@@ -91,14 +90,14 @@ pub fn set_login(row: &mut [u8], yes: bool)
 
 // Where the memory that LOC names begins.
 fn memory_at(eeprom: bool) -> usize
-    ensures { λ r. ⌜ (r ≡ memoryAt eeprom) × (r ≤ 224) ⌝ }
+    ensures { λ r. ⌜ (r ≡ memoryAt eeprom) × (r ≤ memorySize) ⌝ }
 {
     if eeprom { EEPROM } else { RAM }
 }
 
 // Block k of a memory is written.
 pub fn write_block(row: &mut [u8], eeprom: bool, k: usize, bytes: &[u8])
-    requires { ⌜ (length (now row) ≡ rowWidth) × (k < 16) × (length (now bytes) ≡ 14) ⌝ }
+    requires { ⌜ (length (now row) ≡ rowWidth) × (k < blockCount) × (length (now bytes) ≡ blockSize) ⌝ }
     ensures { λ _. ⌜ now (row .exit) ≡ writtenRow eeprom k (now (bytes .entry)) (now (row .entry)) ⌝ }
 {
     let at = memory_at(eeprom);
@@ -107,10 +106,10 @@ pub fn write_block(row: &mut [u8], eeprom: bool, k: usize, bytes: &[u8])
 
 // Block k of EEPROM from RAM.
 pub fn save_block(row: &mut [u8], k: usize)
-    requires { ⌜ (length (now row) ≡ rowWidth) × (k < 16) ⌝ }
+    requires { ⌜ (length (now row) ≡ rowWidth) × (k < blockCount) ⌝ }
     ensures { λ _. ⌜ now (row .exit) ≡ savedRow k (now (row .entry)) ⌝ }
 {
-    octets::move_within(row, BLOCK * k, EEPROM + BLOCK * k, BLOCK);
+    octets::move_within(row, RAM + BLOCK * k, EEPROM + BLOCK * k, BLOCK);
 }
 
 // All blocks of EEPROM from RAM.
@@ -134,7 +133,7 @@ pub fn restart(row: &mut [u8])
 
 // A new lock of VALID-TIME ticks; where 64 stand, the oldest gives way.
 pub fn add_lock(row: &mut [u8], uid: u64)
-    requires { ⌜ (length (now row) ≡ rowWidth) × (getD (now row) countAt 0 ≤ 64) ⌝ }
+    requires { ⌜ (length (now row) ≡ rowWidth) × (getD (now row) countAt 0 ≤ mostLocks) ⌝ }
     ensures { λ _. ⌜ now (row .exit) ≡ lockedRow uid (now (row .entry)) ⌝ }
 {
     let n = row[LOCKED] as usize;
@@ -145,7 +144,7 @@ pub fn add_lock(row: &mut [u8], uid: u64)
 
 // Each lock loses a tick, and goes at zero.
 fn tick_locks(row: &mut [u8])
-    requires { ⌜ (length (now row) ≡ rowWidth) × (getD (now row) countAt 0 ≤ 64) ⌝ }
+    requires { ⌜ (length (now row) ≡ rowWidth) × (getD (now row) countAt 0 ≤ mostLocks) ⌝ }
     ensures { λ _. ⌜ now (row .exit) ≡ sweptRow (now (row .entry)) ⌝ }
 {
     let n = row[LOCKED] as usize;
@@ -166,7 +165,7 @@ fn tick_timer(row: &mut [u8])
 
 // A tick of the locks and the timer.
 pub fn tick(row: &mut [u8])
-    requires { ⌜ (length (now row) ≡ rowWidth) × (getD (now row) countAt 0 ≤ 64) ⌝ }
+    requires { ⌜ (length (now row) ≡ rowWidth) × (getD (now row) countAt 0 ≤ mostLocks) ⌝ }
     ensures { λ _. ⌜ now (row .exit) ≡ tickedRow (now (row .entry)) ⌝ }
 {
     tick_locks(row);
@@ -175,7 +174,7 @@ pub fn tick(row: &mut [u8])
 
 // Block k of a memory to its defaults.
 pub fn restore_block(row: &mut [u8], eeprom: bool, k: usize)
-    requires { ⌜ (length (now row) ≡ rowWidth) × (k < 16) ⌝ }
+    requires { ⌜ (length (now row) ≡ rowWidth) × (k < blockCount) ⌝ }
     ensures { λ _. ⌜ now (row .exit) ≡ writtenRow eeprom k (blockAt k defaults) (now (row .entry)) ⌝ }
 {
     let b = store::fresh::default_block(k);

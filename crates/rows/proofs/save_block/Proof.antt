@@ -20,6 +20,7 @@ save-block-spec =
     (λ c. search needs)
     (λ c. search needs)
     (λ c. search needs)
+    (λ c. search needs)
     move-within-requires
     (λ c. search needs)
     returns)
