@@ -17,7 +17,7 @@ use Rattle.octets.proofs.Rows.{rows-length, rows-put, rows-at}
 use Rattle.table.specs.Entries.{desks, entryCount, entries, recordsOf}
 use Rattle.rules.specs.Desk.{freshDesk}
 use Rattle.rules.specs.Box.{deskAt}
-use Rattle.store.specs.Layout.{recounted, storeSize, rowWidth, sizeOf, header, startOf, usedOf, area, areas, rowAt, rowOf}
+use Rattle.store.specs.Layout.{recounted, storeSize, rowWidth, sizeOf, header, startOf, usedOf, area, areas, rowAt, rowOf, headerArea, rowsArea, entriesArea, usedAt}
 use Rattle.store.specs.View.{deskIn, rowsIn, entriesIn, inUse, viewOf, view}
 use Rattle.store.specs.Sound.{rowSound, tableSound, deskSound}
 use Rattle.store.proofs.LentAreas.{row-in}
@@ -32,7 +32,7 @@ module _ (s : List ℕ) (f : Sound s) (d : ℕ) (h : d < desks) where
   row-is = row-in s d h
 
   pub row-inside : rowAt d s + rowWidth ≤ length s
-  row-inside = omega (arith, f .head .within 1 (lit< tt), f .size)
+  row-inside = omega (arith, f .head .within rowsArea (lit< tt), f .size)
 
   pub row-length : length (rowOf d s) ≡ rowWidth
   row-length = part-length (rowAt d s) rowWidth s row-inside
@@ -44,7 +44,7 @@ module _ (s : List ℕ) (f : Sound s) (d : ℕ) (h : d < desks) where
   pub desk-is : deskAt (view s) d ≡ deskIn (rowOf d s) (recordsOf d (inUse s))
   unfolding deskAt view viewOf
   desk-is =
-      box-at 0 (rowsIn (areas s)) (inUse s) d freshDesk (omega (arith, rows-length desks rowWidth (getD (areas s) 1 [])))
+      box-at 0 (rowsIn (areas s)) (inUse s) d freshDesk (omega (arith, rows-length desks rowWidth (getD (areas s) rowsArea [])))
       ∙ ap (λ (r : List ℕ). deskIn r (recordsOf (0 + d) (inUse s))) row-is ∙ rw zero-add
 
 pub record Left (d : ℕ) (row : List ℕ) (rs : List (List ℕ)) (s s′ : List ℕ) : Type 0 where
@@ -58,18 +58,18 @@ module _ (s : List ℕ) (f : Sound s) (d : ℕ) (h : d < desks) (row : List ℕ)
   unfolding areas upto
   rows-now =
       let e : rowWidth * d ≡ d * rowWidth + 0 = omega arith in
-      ap rowsIn (into-area s (f .head) 1 (rowWidth * d) row (lit< tt) (omega arith) (lit< tt))
-      ∙ ap (λ (o : ℕ). rows desks rowWidth (put o row (area s 1))) e
-      ∙ rows-put desks rowWidth d 0 row (area s 1) h (omega arith)
-      ∙ ap (set (rows desks rowWidth (area s 1)) d) (put-whole row _ (l ∙ sym (ap length (rows-at desks rowWidth d (area s 1) h) ∙ part-length (rowWidth * d) rowWidth (area s 1) (omega (arith, area-length s f 1 (lit< tt))))))
+      ap rowsIn (into-area s (f .head) rowsArea (rowWidth * d) row (lit< tt) (omega arith) (lit< tt))
+      ∙ ap (λ (o : ℕ). rows desks rowWidth (put o row (area s rowsArea))) e
+      ∙ rows-put desks rowWidth d 0 row (area s rowsArea) h (omega arith)
+      ∙ ap (set (rows desks rowWidth (area s rowsArea)) d) (put-whole row _ (l ∙ sym (ap length (rows-at desks rowWidth d (area s rowsArea) h) ∙ part-length (rowWidth * d) rowWidth (area s rowsArea) (omega (arith, area-length s f rowsArea (lit< tt))))))
 
   pub entries-kept : inUse (put (rowAt d s) row s) ≡ inUse s
   unfolding areas upto
-  entries-kept = ap entriesIn (into-area s (f .head) 1 (rowWidth * d) row (lit< tt) (omega arith) (lit< tt))
+  entries-kept = ap entriesIn (into-area s (f .head) rowsArea (rowWidth * d) row (lit< tt) (omega arith) (lit< tt))
 
   pub row-now : rowOf d (put (rowAt d s) row s) ≡ row
   row-now =
-      let kept : header (put (rowAt d s) row s) ≡ header s = header-kept s (f .head) 1 (rowWidth * d) row (lit< tt) (omega arith) (lit< tt) in
+      let kept : header (put (rowAt d s) row s) ≡ header s = header-kept s (f .head) rowsArea (rowWidth * d) row (lit< tt) (omega arith) (lit< tt) in
       rw kept (ap (λ (n : ℕ). part (rowAt d s) n (put (rowAt d s) row s)) (sym l) ∙ part-put-same (rowAt d s) row s (omega (arith, row-inside s f d h)))
 
   pub row-anew : rowSound (length (recordsOf d (inUse s))) row ≡ true → Left d row (recordsOf d (inUse s)) s (put (rowAt d s) row s)
@@ -79,7 +79,7 @@ module _ (s : List ℕ) (f : Sound s) (d : ℕ) (h : d < desks) (row : List ℕ)
         still =
             record {
               size = put-length (rowAt d s) row s ∙ f .size;
-              head = rw (header-kept s (f .head) 1 (rowWidth * d) row (lit< tt) (omega arith) (lit< tt)) (f .head);
+              head = rw (header-kept s (f .head) rowsArea (rowWidth * d) row (lit< tt) (omega arith) (lit< tt)) (f .head);
               table = rw entries-kept (f .table);
               each = λ c b. rw (rows-now, entries-kept) (sound-at c b (ℕ-discrete c d));
             };
@@ -87,7 +87,7 @@ module _ (s : List ℕ) (f : Sound s) (d : ℕ) (h : d < desks) (row : List ℕ)
       }
     where
       size : length (rowsIn (areas s)) ≡ desks
-      size = rows-length desks rowWidth (getD (areas s) 1 [])
+      size = rows-length desks rowWidth (getD (areas s) rowsArea [])
 
       sound-at : (c : ℕ) → c < desks → Dec (c ≡ d) → deskSound (set (rowsIn (areas s)) d row) (inUse s) c ≡ true
       sound-at c b (yes q) = rw (q, getD-set-same (rowsIn (areas s)) d row [] (omega (arith, size))) e
@@ -95,28 +95,28 @@ module _ (s : List ℕ) (f : Sound s) (d : ℕ) (h : d < desks) (row : List ℕ)
 
 -- ---- the entries anew, with their count
 
-module _ (s : List ℕ) (f : Sound s) (d : ℕ) (h : d < desks) (t : List ℕ) (l : length t ≡ sizeOf 2) (n : ℕ) (few : n ≤ entryCount) where
+module _ (s : List ℕ) (f : Sound s) (d : ℕ) (h : d < desks) (t : List ℕ) (l : length t ≡ sizeOf entriesArea) (n : ℕ) (few : n ≤ entryCount) where
   -- the entries are written, and then the count
   abbrev pub refilled : List ℕ
-  refilled = put (startOf (header s) 2) t s
+  refilled = put (startOf (header s) entriesArea) t s
 
   head-kept : header refilled ≡ header s
-  head-kept = ap (λ (p : ℕ). header (put p t s)) (sym (add-zero (startOf (header s) 2))) ∙ header-kept s (f .head) 2 0 t (lit< tt) (omega arith) (lit< tt)
+  head-kept = ap (λ (p : ℕ). header (put p t s)) (sym (add-zero (startOf (header s) entriesArea))) ∙ header-kept s (f .head) entriesArea 0 t (lit< tt) (omega arith) (lit< tt)
 
   size-kept : length refilled ≡ storeSize
-  size-kept = put-length (startOf (header s) 2) t s ∙ f .size
+  size-kept = put-length (startOf (header s) entriesArea) t s ∙ f .size
 
-  areas-now : areas (recounted n refilled) ≡ change 0 (put 4 (octets 2 n)) (change 2 (put 0 t) (areas s))
+  areas-now : areas (recounted n refilled) ≡ change headerArea (put usedAt (octets 2 n)) (change entriesArea (put 0 t) (areas s))
   areas-now =
       into-count refilled size-kept n few (rw head-kept (f .head))
-      ∙ ap (change 0 (put 4 (octets 2 n)))
-      (ap (λ (p : ℕ). areas (put p t s)) (sym (add-zero (startOf (header s) 2))) ∙ into-area s (f .head) 2 0 t (lit< tt) (omega arith) (lit< tt))
+      ∙ ap (change headerArea (put usedAt (octets 2 n)))
+      (ap (λ (p : ℕ). areas (put p t s)) (sym (add-zero (startOf (header s) entriesArea))) ∙ into-area s (f .head) entriesArea 0 t (lit< tt) (omega arith) (lit< tt))
 
   entries-now : inUse (recounted n refilled) ≡ entries n t
   unfolding areas upto
   entries-now =
-      let whole : put 0 t (area s 2) ≡ t = put-whole t (area s 2) (l ∙ sym (area-length s f 2 (lit< tt))) in
-      let count : usedOf (put 4 (octets 2 n) (area s 0)) ≡ n = used-counted n (area s 0) few (area-length s f 0 (lit< tt)) in
+      let whole : put 0 t (area s entriesArea) ≡ t = put-whole t (area s entriesArea) (l ∙ sym (area-length s f entriesArea (lit< tt))) in
+      let count : usedOf (put usedAt (octets 2 n) (area s headerArea)) ≡ n = used-counted n (area s headerArea) few (area-length s f headerArea (lit< tt)) in
       ap entriesIn areas-now ∙ rw (whole, count)
 
   rows-kept : rowsIn (areas (recounted n refilled)) ≡ rowsIn (areas s)
@@ -131,7 +131,7 @@ module _ (s : List ℕ) (f : Sound s) (d : ℕ) (h : d < desks) (t : List ℕ) (
       record {
         still =
             record {
-              size = put-length 4 (octets 2 n) refilled ∙ size-kept;
+              size = put-length usedAt (octets 2 n) refilled ∙ size-kept;
               head = rw (header-counted refilled size-kept n few, head-kept) (counted-fine n (header s) (f .head) few (header-length s (f .size) n few));
               table = rw entries-now ok;
               each = λ c b. rw (rows-kept, entries-now) (sound-at c b (ℕ-discrete c d));
@@ -140,7 +140,7 @@ module _ (s : List ℕ) (f : Sound s) (d : ℕ) (h : d < desks) (t : List ℕ) (
       }
     where
       size : length (rowsIn (areas s)) ≡ desks
-      size = rows-length desks rowWidth (getD (areas s) 1 [])
+      size = rows-length desks rowWidth (getD (areas s) rowsArea [])
 
       sound-at : (c : ℕ) → c < desks → Dec (c ≡ d) → deskSound (rowsIn (areas s)) (entries n t) c ≡ true
       sound-at c b (yes q) = rw (q, row-is s f d h) e

@@ -10,7 +10,7 @@ use Rattle.octets.specs.Parts.{part, put, alike}
 use Rattle.octets.proofs.Alike.{alike-true}
 use Rattle.octets.proofs.Every.{every-at}
 use Rattle.octets.proofs.Joins.{put-next}
-use Rattle.rules.specs.Config.{blockAt, written, validOf, defaultBlocks, defaults}
+use Rattle.rules.specs.Config.{blockSize, blockCount, blockAt, written, validOf, defaultBlocks, defaults}
 use Rattle.rules.proofs.Computed.{computed}
 use Rattle.rules.proofs.Memories.{defaults-legal}
 
@@ -18,21 +18,21 @@ use Rattle.rules.proofs.Memories.{defaults-legal}
 blockRight : ℕ → Bool
 blockRight k = alike (getD defaultBlocks k []) (blockAt k defaults)
 
-pub default-at : (k : ℕ) → k < 16 → getD defaultBlocks k [] ≡ blockAt k defaults
+pub default-at : (k : ℕ) → k < blockCount → getD defaultBlocks k [] ≡ blockAt k defaults
 unfolding computed blockRight
-default-at k l = alike-true _ _ (every-at 16 blockRight k refl l)
+default-at k l = alike-true _ _ (every-at blockCount blockRight k refl l)
 
 -- block k of xs, behind the blocks before it
-pub written-next : (k : ℕ) (xs m : List ℕ) → 14 * k ≤ length xs → written k (blockAt k xs) (put 0 (take (14 * k) xs) m) ≡ put 0 (take (14 * (k + 1)) xs) m
+pub written-next : (k : ℕ) (xs m : List ℕ) → blockSize * k ≤ length xs → written k (blockAt k xs) (put 0 (take (blockSize * k) xs) m) ≡ put 0 (take (blockSize * (k + 1)) xs) m
 unfolding written blockAt part
 written-next k xs m h =
-    let e : 14 * (k + 1) ≡ 14 * k + 14 = omega arith in
-    put-next (take (14 * k) xs) (take 14 (drop (14 * k) xs)) m (14 * k) (length-take-le (14 * k) xs h)
+    let e : blockSize * (k + 1) ≡ blockSize * k + blockSize = omega arith in
+    put-next (take (blockSize * k) xs) (take blockSize (drop (blockSize * k) xs)) m (blockSize * k) (length-take-le (blockSize * k) xs h)
     ∙ ap (λ (ys : List ℕ). put 0 ys m) (sym (rw (e, take-add)))
 
 -- all the blocks are the memory
-pub written-all : (k : ℕ) (m : List ℕ) → k ≡ 16 → put 0 (take (14 * k) defaults) m ≡ put 0 defaults m
-written-all k m e = ap (λ (ys : List ℕ). put 0 ys m) (take-all (14 * k) defaults (omega (arith, defaults-legal .size)))
+pub written-all : (k : ℕ) (m : List ℕ) → k ≡ blockCount → put 0 (take (blockSize * k) defaults) m ≡ put 0 defaults m
+written-all k m e = ap (λ (ys : List ℕ). put 0 ys m) (take-all (blockSize * k) defaults (omega (arith, defaults-legal .size)))
 
 pub valid-default : validOf defaults ≡ 55
 unfolding computed

@@ -17,7 +17,7 @@ use Rattle.octets.proofs.Puts.{part-length, part-put-away, part-put-in, apart-w
 use Rattle.octets.proofs.Numbers.{octets-length}
 use Rattle.octets.proofs.Areas.{upto-change}
 use Rattle.table.specs.Entries.{desks, entryCount}
-use Rattle.store.specs.Layout.{recounted, storeSize, sizeOf, header, startOf, usedOf, area, areas}
+use Rattle.store.specs.Layout.{recounted, storeSize, sizeOf, header, startOf, usedOf, area, areas, headerArea, areaCount, headerSize, usedAt}
 use Rattle.store.specs.View.{rowsIn, entriesIn}
 use Rattle.store.specs.Sound.{fine, tableSound, deskSound, contents, sound}
 use Rattle.store.proofs.Places.{Fine, fine-facts, fine-test, start-counted, used-counted}
@@ -55,11 +55,11 @@ sound-test s f =
 
 -- ---- the areas
 
-pub area-length : (s : List ℕ) → Sound s → (k : ℕ) → k < 3 → length (area s k) ≡ sizeOf k
+pub area-length : (s : List ℕ) → Sound s → (k : ℕ) → k < areaCount → length (area s k) ≡ sizeOf k
 unfolding area
 area-length s f k l = part-length (startOf (header s) k) (sizeOf k) s (omega (arith, f .head .within k l, f .size))
 
-pub area-0 : (s : List ℕ) → area s 0 ≡ header s
+pub area-0 : (s : List ℕ) → area s headerArea ≡ header s
 unfolding area startOf header
 area-0 s = refl
 
@@ -67,18 +67,18 @@ area-0 s = refl
 abbrev pub into : ℕ → ℕ → List ℕ → List ℕ → List ℕ
 into k o xs s = put (startOf (header s) k + o) xs s
 
-module _ (s : List ℕ) (f : Fine (header s)) (k o : ℕ) (xs : List ℕ) (low : k < 3) (fit : o + length xs ≤ sizeOf k) where
+module _ (s : List ℕ) (f : Fine (header s)) (k o : ℕ) (xs : List ℕ) (low : k < areaCount) (fit : o + length xs ≤ sizeOf k) where
   -- what lies in another area stays
-  away : (j : ℕ) → j < 3 → (k ≡ j → ⊥) → part (startOf (header s) j) (sizeOf j) (into k o xs s) ≡ area s j
+  away : (j : ℕ) → j < areaCount → (k ≡ j → ⊥) → part (startOf (header s) j) (sizeOf j) (into k o xs s) ≡ area s j
   unfolding area
   away j l ne =
       part-put-away (startOf (header s) j) (sizeOf j) (startOf (header s) k + o) xs s
       (apart-within _ _ _ _ (startOf (header s) k + o) (length xs) (startOf (header s) j) (sizeOf j) (f .apart k j low l ne) (omega arith) (omega arith) (omega arith) (omega arith))
 
-  areas-into : ((j : ℕ) → j < 3 → startOf (header (into k o xs s)) j ≡ startOf (header s) j) → areas (into k o xs s) ≡ change k (put o xs) (areas s)
+  areas-into : ((j : ℕ) → j < areaCount → startOf (header (into k o xs s)) j ≡ startOf (header s) j) → areas (into k o xs s) ≡ change k (put o xs) (areas s)
   unfolding areas area
   areas-into p =
-      upto-change 3 (area s) (area (into k o xs s)) k (put o xs) low
+      upto-change areaCount (area s) (area (into k o xs s)) k (put o xs) low
       (rw (p k low) (part-put-in (startOf (header s) k) (sizeOf k) o xs s fit))
       (λ j l ne. rw (p j l) (away j l ne))
 
@@ -91,17 +91,17 @@ module _ (s : List ℕ) (f : Fine (header s)) (k o : ℕ) (xs : List ℕ) (low :
   into-area pos = areas-into (λ j l. rw (header-kept pos))
 
 module _ (s : List ℕ) (size : length s ≡ storeSize) (c : ℕ) (few : c ≤ entryCount) where
-  pub header-counted : header (recounted c s) ≡ put 4 (octets 2 c) (header s)
+  pub header-counted : header (recounted c s) ≡ put usedAt (octets 2 c) (header s)
   unfolding header
-  header-counted = part-put-in 0 6 4 (octets 2 c) s (omega (arith, octets-length 2 c))
+  header-counted = part-put-in 0 headerSize usedAt (octets 2 c) s (omega (arith, octets-length 2 c))
 
-  pub header-length : length (header s) ≡ 6
+  pub header-length : length (header s) ≡ headerSize
   unfolding header
-  header-length = part-length 0 6 s (omega arith)
+  header-length = part-length 0 headerSize s (omega arith)
 
   pub used-now : usedOf (header (recounted c s)) ≡ c
   used-now = rw header-counted (used-counted c (header s) few header-length)
 
-  pub into-count : Fine (header s) → areas (recounted c s) ≡ change 0 (put 4 (octets 2 c)) (areas s)
+  pub into-count : Fine (header s) → areas (recounted c s) ≡ change headerArea (put usedAt (octets 2 c)) (areas s)
   unfolding startOf
-  into-count f = areas-into s f 0 4 (octets 2 c) (lit< tt) (omega (arith, octets-length 2 c)) (λ j l. rw header-counted (start-counted c (header s) j l))
+  into-count f = areas-into s f headerArea usedAt (octets 2 c) (lit< tt) (omega (arith, octets-length 2 c)) (λ j l. rw header-counted (start-counted c (header s) j l))

@@ -24,7 +24,7 @@ use Rattle.locks.proofs.Stored.{locks-put}
 use Rattle.rules.specs.Desk.{Desk}
 use Rattle.rules.proofs.Facts.{DeskLegal}
 use Rattle.store.specs.Layout.{rowWidth}
-use Rattle.store.specs.Rows.{fieldSize, field, fields}
+use Rattle.store.specs.Rows.{total, fieldSizes, fieldSize, locksField, field, fields, loginField, markField, fieldCount}
 use Rattle.store.specs.View.{deskOf, deskIn}
 use Rattle.store.specs.Sound.{rowSound}
 use Rattle.store.proofs.Fields.{field-at}
@@ -43,12 +43,8 @@ cut-joined xs (f ∷ fs) =
     rw (← append-assoc xs f (joined fs), ← length-append xs f)
     (ap₂ _∷_ (part-middle xs f (joined fs) (length xs) (length f) refl refl) (cut-joined (xs ++ f) fs))
 
-total : List ℕ → ℕ
-total [] = 0
-total (w ∷ ws) = w + total ws
-
 length-total : (fs : List (List ℕ)) → length (joined fs) ≡ total (map length fs)
-unfolding total joined
+unfolding joined
 length-total [] = refl
 length-total (f ∷ fs) = length-append f (joined fs) ∙ ap (λ (n : ℕ). length f + n) (length-total fs)
 
@@ -59,16 +55,12 @@ octets-joined (f ∷ fs) p = all-append Octet f (joined fs) (p .0) (octets-joine
 
 -- ---- fields that are as long as those of a row
 
-widths : List ℕ
-widths = map fieldSize (0 ∷ 1 ∷ 2 ∷ 3 ∷ 4 ∷ 5 ∷ 6 ∷ 7 ∷ 8 ∷ 9 ∷ [])
-
-module _ (fs : List (List ℕ)) (e : map length fs ≡ widths) where
+module _ (fs : List (List ℕ)) (e : map length fs ≡ fieldSizes) where
   together-length : length (joined fs) ≡ rowWidth
-  unfolding total widths
   together-length = length-total fs ∙ ap total e
 
   together-fields : fields (joined fs) ≡ fs
-  unfolding fields field upto cut widths
+  unfolding fields field upto cut
   together-fields = ap (λ (ws : List ℕ). cut 0 ws (joined fs)) (sym e) ∙ cut-joined [] fs
 
 -- ---- the fields of a desk
@@ -86,8 +78,11 @@ unfolding flag
 flag-back true = refl
 flag-back false = refl
 
+abbrev locksSize : ℕ
+locksSize = fieldSize locksField
+
 locksPadded : List Lock → List ℕ
-locksPadded ls = put 0 (locksOctets ls) (replicate 640 0)
+locksPadded ls = put 0 (locksOctets ls) (replicate locksSize 0)
 
 fieldsOf : Desk → List (List ℕ)
 fieldsOf d =
@@ -97,9 +92,9 @@ fieldsOf d =
 pub rowFor : Desk → List ℕ
 rowFor d = joined (fieldsOf d)
 
-padded-length : (ls : List Lock) → length (locksPadded ls) ≡ 640
+padded-length : (ls : List Lock) → length (locksPadded ls) ≡ locksSize
 unfolding locksPadded
-padded-length ls = put-length 0 (locksOctets ls) (replicate 640 0) ∙ length-replicate {A = ℕ} 640 0
+padded-length ls = put-length 0 (locksOctets ls) (replicate locksSize 0) ∙ length-replicate {A = ℕ} locksSize 0
 
 lock-octets : (ls : List Lock) → All (All Octet) (map lockOctets ls)
 unfolding lockOctets
@@ -108,7 +103,7 @@ lock-octets (l ∷ ls) = (all-append Octet (octets 8 (l .uid)) (octets 2 (l .lef
 
 padded-octets : (ls : List Lock) → All Octet (locksPadded ls)
 unfolding locksPadded locksOctets
-padded-octets ls = octets-put 0 (locksOctets ls) (replicate 640 0) (octets-joined (map lockOctets ls) (lock-octets ls)) (all-replicate Octet 640 0 (lit< tt))
+padded-octets ls = octets-put 0 (locksOctets ls) (replicate locksSize 0) (octets-joined (map lockOctets ls) (lock-octets ls)) (all-replicate Octet locksSize 0 (lit< tt))
 
 -- a number of one octet, read back
 one-back : (x : ℕ) → x ≤ 255 → number (octets 1 x) ≡ x
@@ -118,8 +113,8 @@ flag-number : (b : Bool) → number (octets 1 (flag b)) ≡ flag b
 flag-number b = one-back (flag b) (omega (arith, flag-small b))
 
 module _ (d : Desk) (p : DeskLegal d) where
-  lengths : map length (fieldsOf d) ≡ widths
-  unfolding fieldsOf widths
+  lengths : map length (fieldsOf d) ≡ fieldSizes
+  unfolding fieldsOf
   lengths = simp (p .ram .size, p .eeprom .size, octets-length, timer-length, padded-length)
 
   pub row-length : length (rowFor d) ≡ rowWidth
@@ -139,7 +134,7 @@ module _ (d : Desk) (p : DeskLegal d) where
 
   locks-back : locksIn (length (d .locks)) (locksPadded (d .locks)) ≡ d .locks
   unfolding locksPadded
-  locks-back = locks-put (d .locks) (replicate 640 0) (p .fit) (omega (arith, p .locks .few, length-replicate {A = ℕ} 640 0))
+  locks-back = locks-put (d .locks) (replicate locksSize 0) (p .fit) (omega (arith, p .locks .few, length-replicate {A = ℕ} locksSize 0))
 
   fields-say : deskOf (fieldsOf d) (d .table .held) ≡ d
   unfolding deskOf fieldsOf
@@ -161,11 +156,11 @@ module _ (d : Desk) (p : DeskLegal d) where
   row-says = ap (λ (fs : List (List ℕ)). deskOf fs (d .table .held)) row-fields ∙ fields-say
 
   -- login and mark are 0 or 1
-  flag-at : (k : ℕ) → k < 10 → (b : Bool) → getD (fieldsOf d) k [] ≡ octets 1 (flag b) → number (field (rowFor d) k) ≤ 1
+  flag-at : (k : ℕ) → k < fieldCount → (b : Bool) → getD (fieldsOf d) k [] ≡ octets 1 (flag b) → number (field (rowFor d) k) ≤ 1
   flag-at k l b e =
       rw (sym (field-at (rowFor d) k l) ∙ ap (λ (fs : List (List ℕ)). getD fs k []) row-fields ∙ e, flag-number b) (flag-small b)
 
   pub row-sound : rowSound (length (d .table .held)) (rowFor d) ≡ true
   unfolding fieldsOf
   row-sound =
-      legal-row (rowFor d) (d .table .held) (rw row-says p) (flag-at 3 (lit< tt) (d .loggedIn) refl) (flag-at 5 (lit< tt) (d .table .overflow) refl)
+      legal-row (rowFor d) (d .table .held) (rw row-says p) (flag-at loginField (lit< tt) (d .loggedIn) refl) (flag-at markField (lit< tt) (d .table .overflow) refl)

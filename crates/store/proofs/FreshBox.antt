@@ -17,7 +17,7 @@ use Rattle.store.specs.Layout.{storeSize, rowWidth}
 use Rattle.store.specs.Rows.{field, fields}
 use Rattle.store.specs.View.{deskOf, deskIn, boxFrom, view}
 use Rattle.store.specs.Sound.{countsRight, blocksLegal, markRight, dueRight, locksRight, rowSound, tableSound, deskSound, sound}
-use Rattle.store.specs.Fresh.{freshRow, freshHeader, freshStore}
+use Rattle.store.specs.Fresh.{rowsBegin, freshRow, freshHeader, freshStore}
 use Rattle.store.proofs.FreshRows.{row-length, wide-alike}
 use Rattle.store.proofs.Laid.{laidHeader, laid, laid-sound, laid-says, zeros, zeros-size}
 
@@ -42,7 +42,7 @@ freshRows = replicate desks freshRow
 
 fresh-laid : freshStore ≡ laid freshRows [] zeros
 unfolding freshStore freshRows zeros laid put joined
-fresh-laid = ap (λ (h : List ℕ). put 6 (joined (replicate desks freshRow)) (put 0 h (replicate storeSize 0))) (sym none-used)
+fresh-laid = ap (λ (h : List ℕ). put rowsBegin (joined (replicate desks freshRow)) (put 0 h (replicate storeSize 0))) (sym none-used)
 
 table-sound : tableSound [] ≡ true
 unfolding tableSound ownersBelow sharesKept recordsOf every

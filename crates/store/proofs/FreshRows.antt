@@ -1,5 +1,5 @@
 -- The fresh row, header and rows, as they are written one part behind the other. Assumes nothing.
-use Prim.Native.Nat.{ℕ, zero, suc, _+_, _*_}
+use Prim.Native.Nat.{ℕ, zero, suc, _+_, _-_, _*_}
 use mathlib.Core.Path.{_≡_, refl, sym, ap, _∙_}
 use mathlib.Core.List.{List, [], _∷_, _++_, append-nil}
 use lib.ListN.{length, take, drop, replicate, length-append, length-drop, length-replicate, replicate-append-replicate, drop-of-length-le}
@@ -12,12 +12,12 @@ use Rattle.octets.proofs.Joins.{put-next}
 use Rattle.octets.proofs.Numbers.{octets-length}
 use Rattle.octets.proofs.Rows.{Wide, joined-append, joined-one, length-joined}
 use Rattle.table.specs.Entries.{desks}
-use Rattle.rules.specs.Config.{defaults, validOf}
+use Rattle.rules.specs.Config.{memorySize, defaults, validOf}
 use Rattle.rules.proofs.Memories.{defaults-legal}
 use Rattle.rules.proofs.Computed.{computed}
-use Rattle.store.specs.Rows.{loginAt, validAt}
-use Rattle.store.specs.Layout.{storeSize, rowWidth}
-use Rattle.store.specs.Fresh.{freshRow, freshHeader, freshStore}
+use Rattle.store.specs.Rows.{ramAt, eepromAt, validAt, loginAt}
+use Rattle.store.specs.Layout.{storeSize, rowWidth, headerSize, usedAt}
+use Rattle.store.specs.Fresh.{rowsBegin, entriesBegin, freshRow, freshHeader, freshStore}
 
 -- three parts, one behind the other
 put-three : (xs ys zs s : List ℕ) (i j : ℕ) → length xs ≡ i → length xs + length ys ≡ j → put j zs (put i ys (put 0 xs s)) ≡ put 0 (xs ++ ys ++ zs) s
@@ -45,27 +45,27 @@ zeros-behind xs s y n m e h z =
 -- ---- a row
 
 -- zeros, and before them the defaults twice and VALID-TIME v
-pub row-made : (v : ℕ) (s y : List ℕ) → v ≡ validOf defaults → length s ≡ rowWidth → y ≡ replicate (length (take 649 (drop loginAt s))) 0
-    → put validAt (octets 2 v) (put 224 defaults (put 0 defaults (take loginAt s ++ (y ++ drop 649 (drop loginAt s))))) ≡ freshRow
+pub row-made : (v : ℕ) (s y : List ℕ) → v ≡ validOf defaults → length s ≡ rowWidth → y ≡ replicate (length (take (rowWidth - loginAt) (drop loginAt s))) 0
+    → put validAt (octets 2 v) (put eepromAt defaults (put ramAt defaults (take loginAt s ++ (y ++ drop (rowWidth - loginAt) (drop loginAt s))))) ≡ freshRow
 unfolding freshRow
 row-made v s y e h z =
-    let d : length defaults ≡ 224 = defaults-legal .size in
+    let d : length defaults ≡ memorySize = defaults-legal .size in
     let front = defaults ++ defaults ++ octets 2 (validOf defaults) in
     let long : length front ≡ loginAt = rw (length-append, length-append) (omega (arith, octets-length 2 (validOf defaults))) in
-    rw e (put-three defaults defaults (octets 2 (validOf defaults)) _ 224 validAt d (omega arith)
-    ∙ zeros-behind front s y loginAt 649 long h z)
+    rw e (put-three defaults defaults (octets 2 (validOf defaults)) _ eepromAt validAt d (omega arith)
+    ∙ zeros-behind front s y loginAt (rowWidth - loginAt) long h z)
 
 pub row-length : length freshRow ≡ rowWidth
 unfolding freshRow
 row-length = put-length 0 _ (replicate rowWidth 0) ∙ length-replicate {A = ℕ} rowWidth 0
 
 -- the rows at a, the entries at b, u of them in use
-pub header-made : (a b u : ℕ) (s : List ℕ) → a ≡ 6 → b ≡ 6 + rowWidth * desks → u ≡ 0 → put 4 (octets 2 u) (put 2 (octets 2 b) (put 0 (octets 2 a) s)) ≡ put 0 freshHeader s
+pub header-made : (a b u : ℕ) (s : List ℕ) → a ≡ rowsBegin → b ≡ entriesBegin → u ≡ 0 → put usedAt (octets 2 u) (put 2 (octets 2 b) (put 0 (octets 2 a) s)) ≡ put 0 freshHeader s
 unfolding freshHeader
 header-made a b u s p q r =
-    put-three (octets 2 a) (octets 2 b) (octets 2 u) s 2 4 (octets-length 2 a) (omega (arith, octets-length 2 a, octets-length 2 b)) ∙ rw (p, q, r)
+    put-three (octets 2 a) (octets 2 b) (octets 2 u) s 2 usedAt (octets-length 2 a) (omega (arith, octets-length 2 a, octets-length 2 b)) ∙ rw (p, q, r)
 
-pub fresh-length : length freshHeader ≡ 6
+pub fresh-length : length freshHeader ≡ headerSize
 unfolding computed freshHeader
 fresh-length = refl
 
@@ -90,12 +90,12 @@ rows-next w d start at r r′ s s′ e h p q =
 -- ---- the whole store
 
 -- zeros behind the rows, the header and the rows in front of them
-pub store-made : (s y : List ℕ) → length s ≡ storeSize → y ≡ replicate (length (take 7586 (drop 8798 s))) 0
-    → put 6 (joined (replicate desks freshRow)) (put 0 freshHeader (take 8798 s ++ (y ++ drop 7586 (drop 8798 s)))) ≡ freshStore
+pub store-made : (s y : List ℕ) → length s ≡ storeSize → y ≡ replicate (length (take (storeSize - entriesBegin) (drop entriesBegin s))) 0
+    → put rowsBegin (joined (replicate desks freshRow)) (put 0 freshHeader (take entriesBegin s ++ (y ++ drop (storeSize - entriesBegin) (drop entriesBegin s)))) ≡ freshStore
 unfolding freshStore
 store-made s y e z =
     let rs = joined (replicate desks freshRow) in
     let rows : length rs ≡ rowWidth * desks = length-joined rowWidth (replicate desks freshRow) (wide-alike rowWidth desks freshRow row-length) ∙ ap (λ (k : ℕ). rowWidth * k) (length-replicate desks freshRow) in
-    put-next freshHeader rs _ 6 fresh-length
-    ∙ zeros-behind (freshHeader ++ rs) s y 8798 7586 (length-append freshHeader rs ∙ omega (arith, fresh-length)) e z
-    ∙ sym (put-next freshHeader rs (replicate storeSize 0) 6 fresh-length)
+    put-next freshHeader rs _ rowsBegin fresh-length
+    ∙ zeros-behind (freshHeader ++ rs) s y entriesBegin (storeSize - entriesBegin) (length-append freshHeader rs ∙ omega (arith, fresh-length)) e z
+    ∙ sym (put-next freshHeader rs (replicate storeSize 0) rowsBegin fresh-length)

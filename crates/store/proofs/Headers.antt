@@ -10,22 +10,22 @@ use Rattle.octets.specs.Tests.{every}
 use Rattle.octets.specs.Numbers.{u16At}
 use Rattle.octets.proofs.Every.{every-at}
 use Rattle.octets.proofs.Numbers.{u16At-part}
-use Rattle.store.specs.Layout.{sizeOf, header, startOf, usedOf}
+use Rattle.store.specs.Layout.{storeSize, areaCount, usedAt, headerSize, sizeOf, header, startOf, usedOf}
 
-pub size-small : (k : ℕ) → k < 3 → sizeOf k ≤ 8792
+pub size-small : (k : ℕ) → k < areaCount → sizeOf k ≤ storeSize
 unfolding every
-size-small k l = leb-true _ _ (every-at 3 (λ k. leb (sizeOf k) 8792) k refl l)
+size-small k l = leb-true _ _ (every-at areaCount (λ k. leb (sizeOf k) storeSize) k refl l)
 
 -- a number of the header, read in the store
-in-header : (i : ℕ) (s : List ℕ) → i + 2 ≤ 6 → u16At i (header s) ≡ u16At i s
+in-header : (i : ℕ) (s : List ℕ) → i + 2 ≤ headerSize → u16At i (header s) ≡ u16At i s
 unfolding header
-in-header i s h = u16At-part i 0 6 s h ∙ rw zero-add
+in-header i s h = u16At-part i 0 headerSize s h ∙ rw zero-add
 
-pub start-read : (s : List ℕ) (k : ℕ) → k < 3 → (k ≡ 0 → ⊥) → startOf (header s) k ≡ u16At ((k - 1) * 2) s
+pub start-read : (s : List ℕ) (k : ℕ) → k < areaCount → (k ≡ 0 → ⊥) → startOf (header s) k ≡ u16At ((k - 1) * 2) s
 unfolding startOf
 start-read s zero l n = absurd (n refl)
 start-read s (suc k) l n = let e : suc k - 1 ≡ k = omega arith in rw e (in-header (k * 2) s (omega arith))
 
-pub used-read : (s : List ℕ) → usedOf (header s) ≡ u16At 4 s
+pub used-read : (s : List ℕ) → usedOf (header s) ≡ u16At usedAt s
 unfolding usedOf
-used-read s = in-header 4 s (lit≤ tt)
+used-read s = in-header usedAt s (lit≤ tt)

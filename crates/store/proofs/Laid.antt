@@ -18,10 +18,10 @@ use Rattle.octets.proofs.Puts.{put-length, part-length, part-put-away, part-put
 use Rattle.octets.proofs.Rows.{Wide, length-joined, rows-joined}
 use Rattle.table.specs.Entries.{width, desks, entryCount, entries}
 use Rattle.rules.proofs.Computed.{computed}
-use Rattle.store.specs.Layout.{storeSize, rowWidth, sizeOf, header, startOf, usedOf, area, areas}
+use Rattle.store.specs.Layout.{storeSize, rowWidth, sizeOf, header, startOf, usedOf, area, areas, rowsArea, entriesArea, areaCount, headerSize, usedAt}
 use Rattle.store.specs.View.{boxFrom, rowsIn, entriesIn, viewOf, view}
 use Rattle.store.specs.Sound.{fine, tableSound, deskSound, sound}
-use Rattle.store.specs.Fresh.{freshHeader}
+use Rattle.store.specs.Fresh.{rowsBegin, entriesBegin, freshHeader}
 use Rattle.store.proofs.Places.{Fine, fine-facts, start-counted, used-counted, counted-fine}
 use Rattle.store.proofs.Changes.{sound-test}
 use Rattle.store.proofs.FreshRows.{fresh-length}
@@ -29,7 +29,7 @@ use Rattle.store.proofs.FreshRows.{fresh-length}
 -- ---- the header, with n entries in use
 
 unfoldable pub laidHeader : ℕ → List ℕ
-laidHeader n = put 4 (octets 2 n) freshHeader
+laidHeader n = put usedAt (octets 2 n) freshHeader
 
 fresh-fine : fine freshHeader ≡ true
 unfolding computed freshHeader fine startOf usedOf
@@ -38,21 +38,21 @@ fresh-fine = refl
 fresh-octets : All Octet freshHeader
 unfolding freshHeader
 fresh-octets =
-    all-append Octet (octets 2 6 ++ octets 2 (6 + rowWidth * desks)) (octets 2 0)
-    (all-append Octet (octets 2 6) (octets 2 (6 + rowWidth * desks)) (octets-number 2 6) (octets-number 2 (6 + rowWidth * desks)))
+    all-append Octet (octets 2 rowsBegin ++ octets 2 entriesBegin) (octets 2 0)
+    (all-append Octet (octets 2 rowsBegin) (octets 2 entriesBegin) (octets-number 2 rowsBegin) (octets-number 2 entriesBegin))
     (octets-number 2 0)
 
-rows-start : startOf freshHeader 1 ≡ 6
+rows-start : startOf freshHeader rowsArea ≡ rowsBegin
 unfolding computed freshHeader startOf
 rows-start = refl
 
-entries-start : startOf freshHeader 2 ≡ 6 + rowWidth * desks
+entries-start : startOf freshHeader entriesArea ≡ entriesBegin
 unfolding computed freshHeader startOf
 entries-start = refl
 
-header-length : (n : ℕ) → length (laidHeader n) ≡ 6
+header-length : (n : ℕ) → length (laidHeader n) ≡ headerSize
 unfolding laidHeader
-header-length n = put-length 4 (octets 2 n) freshHeader ∙ fresh-length
+header-length n = put-length usedAt (octets 2 n) freshHeader ∙ fresh-length
 
 -- ---- rows of one width, put where a part begins
 
@@ -65,13 +65,13 @@ rows-put-in at n w es s wide fit inside =
 -- ---- the store
 
 unfoldable pub laid : List (List ℕ) → List (List ℕ) → List ℕ → List ℕ
-laid rs es b = put (6 + rowWidth * desks) (joined es) (put 6 (joined rs) (put 0 (laidHeader (length es)) b))
+laid rs es b = put entriesBegin (joined es) (put rowsBegin (joined rs) (put 0 (laidHeader (length es)) b))
 
 pub laid-octets : (rs es : List (List ℕ)) (b : List ℕ) → All Octet (joined rs) → All Octet (joined es) → All Octet b → All Octet (laid rs es b)
 unfolding laid laidHeader
 laid-octets rs es b p q o =
-    octets-put (6 + rowWidth * desks) (joined es) _ q
-    (octets-put 6 (joined rs) _ p (octets-put 0 (laidHeader (length es)) b (octets-put 4 (octets 2 (length es)) freshHeader (octets-number 2 (length es)) fresh-octets) o))
+    octets-put entriesBegin (joined es) _ q
+    (octets-put rowsBegin (joined rs) _ p (octets-put 0 (laidHeader (length es)) b (octets-put usedAt (octets 2 (length es)) freshHeader (octets-number 2 (length es)) fresh-octets) o))
 
 module _
     (rs es : List (List ℕ))
@@ -86,27 +86,27 @@ module _
     headed = put 0 (laidHeader (length es)) b
 
     abbrev rowed : List ℕ
-    rowed = put 6 (joined rs) headed
+    rowed = put rowsBegin (joined rs) headed
 
     rows-long : length (joined rs) ≡ rowWidth * desks
     rows-long = length-joined rowWidth rs long ∙ ap (λ (n : ℕ). rowWidth * n) count
 
     rowed-size : length rowed ≡ storeSize
-    rowed-size = put-length 6 (joined rs) headed ∙ put-length 0 (laidHeader (length es)) b ∙ size
+    rowed-size = put-length rowsBegin (joined rs) headed ∙ put-length 0 (laidHeader (length es)) b ∙ size
 
     laid-size : length (laid rs es b) ≡ storeSize
     unfolding laid
-    laid-size = put-length (6 + rowWidth * desks) (joined es) rowed ∙ rowed-size
+    laid-size = put-length entriesBegin (joined es) rowed ∙ rowed-size
 
     laid-header : header (laid rs es b) ≡ laidHeader (length es)
     unfolding header laid
     laid-header =
-        part-put-away 0 6 (6 + rowWidth * desks) (joined es) rowed (inr (lit≤ tt))
-        ∙ part-put-away 0 6 6 (joined rs) headed (inr (lit≤ tt))
+        part-put-away 0 headerSize entriesBegin (joined es) rowed (inr (lit≤ tt))
+        ∙ part-put-away 0 headerSize rowsBegin (joined rs) headed (inr (lit≤ tt))
         ∙ ap (λ (n : ℕ). part 0 n headed) (sym (header-length (length es)))
         ∙ part-put-same 0 (laidHeader (length es)) b (omega (arith, header-length (length es)))
 
-    start-is : (k at : ℕ) → k < 3 → startOf freshHeader k ≡ at → startOf (header (laid rs es b)) k ≡ at
+    start-is : (k at : ℕ) → k < areaCount → startOf freshHeader k ≡ at → startOf (header (laid rs es b)) k ≡ at
     unfolding laidHeader
     start-is k at l e = ap (λ (h : List ℕ). startOf h k) laid-header ∙ start-counted (length es) freshHeader k l ∙ e
 
@@ -121,17 +121,17 @@ module _
     laid-rows : rowsIn (areas (laid rs es b)) ≡ rs
     unfolding areas upto area laid
     laid-rows =
-        ap (λ (at : ℕ). rows desks rowWidth (part at (sizeOf 1) (laid rs es b))) (start-is 1 6 (lit< tt) rows-start)
-        ∙ ap (rows desks rowWidth) (part-put-away 6 (sizeOf 1) (6 + rowWidth * desks) (joined es) rowed (inr (lit≤ tt)))
-        ∙ ap (λ (n : ℕ). rows n rowWidth (part 6 (sizeOf 1) rowed)) (sym count)
-        ∙ rows-put-in 6 (sizeOf 1) rowWidth rs headed long (omega arith) (omega (arith, put-length 0 (laidHeader (length es)) b))
+        ap (λ (at : ℕ). rows desks rowWidth (part at (sizeOf rowsArea) (laid rs es b))) (start-is rowsArea rowsBegin (lit< tt) rows-start)
+        ∙ ap (rows desks rowWidth) (part-put-away rowsBegin (sizeOf rowsArea) entriesBegin (joined es) rowed (inr (lit≤ tt)))
+        ∙ ap (λ (n : ℕ). rows n rowWidth (part rowsBegin (sizeOf rowsArea) rowed)) (sym count)
+        ∙ rows-put-in rowsBegin (sizeOf rowsArea) rowWidth rs headed long (omega arith) (omega (arith, put-length 0 (laidHeader (length es)) b))
 
     laid-entries : entriesIn (areas (laid rs es b)) ≡ es
     unfolding areas upto area startOf header laid
     laid-entries =
-        ap (λ (n : ℕ). entries n (area (laid rs es b) 2)) used-is
-        ∙ ap (λ (at : ℕ). entries (length es) (part at (sizeOf 2) (laid rs es b))) (start-is 2 (6 + rowWidth * desks) (lit< tt) entries-start)
-        ∙ rows-put-in (6 + rowWidth * desks) (sizeOf 2) width es rowed wide (omega arith) (omega (arith, rowed-size))
+        ap (λ (n : ℕ). entries n (area (laid rs es b) entriesArea)) used-is
+        ∙ ap (λ (at : ℕ). entries (length es) (part at (sizeOf entriesArea) (laid rs es b))) (start-is entriesArea entriesBegin (lit< tt) entries-start)
+        ∙ rows-put-in entriesBegin (sizeOf entriesArea) width es rowed wide (omega arith) (omega (arith, rowed-size))
 
     pub laid-sound : tableSound es ≡ true → ((d : ℕ) → d < desks → deskSound rs es d ≡ true) → sound (laid rs es b) ≡ true
     laid-sound table each =

@@ -21,13 +21,13 @@ use Rattle.locks.proofs.Stored.{locks-in-fit, locks-in-length}
 use Rattle.locks.proofs.Sound.{locks-facts, locks-test}
 use Rattle.table.specs.Entries.{width, desks, share, owner, body, recordsOf, ownersBelow, sharesKept}
 use Rattle.table.proofs.Shares.{sharesKept-at}
-use Rattle.rules.specs.Config.{blockAt, lineLegal}
+use Rattle.rules.specs.Config.{memorySize, blockAt, lineLegal}
 use Rattle.rules.proofs.Facts.{MemoryLegal, RecordLegal, DeskLegal, box-facts, box-test}
 use Rattle.rules.proofs.Legality.{desk-in-box}
 use Rattle.rules.specs.Legal.{boxLegal}
 use Rattle.rules.specs.Box.{deskAt}
-use Rattle.store.specs.Layout.{rowWidth, sizeOf, header, startOf, usedOf, area, areas, rowAt, rowOf}
-use Rattle.store.specs.Rows.{fieldAt, fieldSize, field, fields}
+use Rattle.store.specs.Layout.{rowWidth, sizeOf, header, startOf, usedOf, area, areas, rowAt, rowOf, headerArea, rowsArea, entriesArea}
+use Rattle.store.specs.Rows.{fieldAt, fieldSize, field, fields, ramField, eepromField, validField, loginField, timerField, markField, dueField, startField, countField, locksField, fieldCount}
 use Rattle.store.specs.View.{deskOf, deskIn, inUse, view, boxFrom, rowsIn, viewOf}
 use Rattle.store.specs.Sound.{countsRight, blocksLegal, markRight, dueRight, locksRight, rowSound, tableSound, sound}
 use Rattle.store.proofs.Fields.{field-length}
@@ -38,16 +38,16 @@ use Rattle.store.proofs.Anew.{row-length, row-sound, desk-is, row-is}
 -- ---- what the test of a row tells, with the number of records held
 
 pub record RowSound (held : ℕ) (row : List ℕ) : Type 0 where
-  pub login : number (field row 3) ≤ 1
-  pub mark : number (field row 5) ≤ 1
-  pub start : number (field row 7) < share
-  pub count : number (field row 8) ≤ mostLocks
-  pub timer : timerLegal (timerFrom (field row 4)) ≡ true
-  pub ram : lineLegal (blockAt 7 (field row 0)) ≡ true
-  pub eeprom : lineLegal (blockAt 7 (field row 1)) ≡ true
-  pub full : number (field row 5) ≡ 1 → held ≡ share
-  pub due : number (field row 6) ≤ held
-  pub locks : locksLegal (number (field row 2)) (locksIn (number (field row 8)) (field row 9)) ≡ true
+  pub login : number (field row loginField) ≤ 1
+  pub mark : number (field row markField) ≤ 1
+  pub start : number (field row startField) < share
+  pub count : number (field row countField) ≤ mostLocks
+  pub timer : timerLegal (timerFrom (field row timerField)) ≡ true
+  pub ram : lineLegal (blockAt 7 (field row ramField)) ≡ true
+  pub eeprom : lineLegal (blockAt 7 (field row eepromField)) ≡ true
+  pub full : number (field row markField) ≡ 1 → held ≡ share
+  pub due : number (field row dueField) ≤ held
+  pub locks : locksLegal (number (field row validField)) (locksIn (number (field row countField)) (field row locksField)) ≡ true
 
 only-where : (a b : Bool) → not a || b ≡ true → a ≡ true → b ≡ true
 only-where true b e q = e
@@ -60,17 +60,17 @@ where-only false b f = refl
 pub row-facts : (held : ℕ) (row : List ℕ) → rowSound held row ≡ true → RowSound held row
 unfolding rowSound fields upto countsRight blocksLegal markRight dueRight locksRight
 row-facts held row e =
-    let m : not (eqb (number (field row 5)) 1) || eqb held share ≡ true = search (and-left, and-right) depth 9 in
+    let m : not (eqb (number (field row markField)) 1) || eqb held share ≡ true = search (and-left, and-right) depth 9 in
     record {
-      login = leb-true (number (field row 3)) 1 (search (and-left, and-right) depth 9);
-      mark = leb-true (number (field row 5)) 1 (search (and-left, and-right) depth 9);
-      start = ltb-true (number (field row 7)) share (search (and-left, and-right) depth 9);
-      count = leb-true (number (field row 8)) mostLocks (search (and-left, and-right) depth 9);
+      login = leb-true (number (field row loginField)) 1 (search (and-left, and-right) depth 9);
+      mark = leb-true (number (field row markField)) 1 (search (and-left, and-right) depth 9);
+      start = ltb-true (number (field row startField)) share (search (and-left, and-right) depth 9);
+      count = leb-true (number (field row countField)) mostLocks (search (and-left, and-right) depth 9);
       timer = search (and-left, and-right) depth 9;
       ram = search (and-left, and-right) depth 9;
       eeprom = search (and-left, and-right) depth 9;
-      full = λ q. eqb-true held share (only-where _ _ m (eq-eqb (number (field row 5)) 1 q));
-      due = leb-true (number (field row 6)) held (search (and-left, and-right) depth 9);
+      full = λ q. eqb-true held share (only-where _ _ m (eq-eqb (number (field row markField)) 1 q));
+      due = leb-true (number (field row dueField)) held (search (and-left, and-right) depth 9);
       locks = search (and-left, and-right) depth 9;
     }
 
@@ -78,15 +78,15 @@ pub row-test : (held : ℕ) (row : List ℕ) → RowSound held row → rowSound 
 unfolding rowSound fields upto countsRight blocksLegal markRight dueRight locksRight
 row-test held row f =
     rw (
-      le-leb (number (field row 3)) 1 (f .login),
-      le-leb (number (field row 5)) 1 (f .mark),
-      lt-ltb (number (field row 7)) share (f .start),
-      le-leb (number (field row 8)) mostLocks (f .count),
+      le-leb (number (field row loginField)) 1 (f .login),
+      le-leb (number (field row markField)) 1 (f .mark),
+      lt-ltb (number (field row startField)) share (f .start),
+      le-leb (number (field row countField)) mostLocks (f .count),
       f .timer,
       f .ram,
       f .eeprom,
-      where-only (eqb (number (field row 5)) 1) (eqb held share) (λ q. eq-eqb held share (f .full (eqb-true (number (field row 5)) 1 q))),
-      le-leb (number (field row 6)) held (f .due),
+      where-only (eqb (number (field row markField)) 1) (eqb held share) (λ q. eq-eqb held share (f .full (eqb-true (number (field row markField)) 1 q))),
+      le-leb (number (field row dueField)) held (f .due),
       f .locks,
     )
 
@@ -97,7 +97,7 @@ module _ (row : List ℕ) (l : length row ≡ rowWidth) (o : Octets row) (rs : L
   unfolding field
   field-octets k = octets-part (fieldAt k) (fieldSize k) row o
 
-  memory-legal : (k : ℕ) → k < 10 → fieldSize k ≡ 224 → lineLegal (blockAt 7 (field row k)) ≡ true → MemoryLegal (field row k)
+  memory-legal : (k : ℕ) → k < fieldCount → fieldSize k ≡ memorySize → lineLegal (blockAt 7 (field row k)) ≡ true → MemoryLegal (field row k)
   memory-legal k h e line = record { size = field-length row l k h ∙ e; octets = octets-each (field row k) (field-octets k); line = line }
 
   pub desk-legal : rowSound (length rs) row ≡ true → length rs ≤ share → All RecordLegal rs → DeskLegal (deskIn row rs)
@@ -105,24 +105,24 @@ module _ (row : List ℕ) (l : length row ≡ rowWidth) (o : Octets row) (rs : L
   desk-legal e few each =
       let f : RowSound (length rs) row = row-facts (length rs) row e in
       record {
-        ram = memory-legal 0 (lit< tt) refl (f .ram);
-        eeprom = memory-legal 1 (lit< tt) refl (f .eeprom);
-        valid = rw (field-length row l 2 (lit< tt)) at (number-lt (field row 2) (field-octets 2));
+        ram = memory-legal ramField (lit< tt) refl (f .ram);
+        eeprom = memory-legal eepromField (lit< tt) refl (f .eeprom);
+        valid = rw (field-length row l validField (lit< tt)) at (number-lt (field row validField) (field-octets validField));
         timer = f .timer;
-        locks = locks-facts (number (field row 2)) (locksIn (number (field row 8)) (field row 9)) (f .locks);
-        fit = locks-in-fit (number (field row 8)) (field row 9) (field-octets 9) (omega (arith, f .count, field-length row l 9 (lit< tt)));
+        locks = locks-facts (number (field row validField)) (locksIn (number (field row countField)) (field row locksField)) (f .locks);
+        fit = locks-in-fit (number (field row countField)) (field row locksField) (field-octets locksField) (omega (arith, f .count, field-length row l locksField (lit< tt)));
         table =
             record {
               few = few;
               each = each;
-              mark = λ q. f .full (eqb-true (number (field row 5)) 1 q);
+              mark = λ q. f .full (eqb-true (number (field row markField)) 1 q);
               due = f .due;
               start = f .start;
             };
       }
 
 -- the other way: what is left is that login and mark are 0 or 1
-pub legal-row : (row : List ℕ) (rs : List (List ℕ)) → DeskLegal (deskIn row rs) → number (field row 3) ≤ 1 → number (field row 5) ≤ 1 → rowSound (length rs) row ≡ true
+pub legal-row : (row : List ℕ) (rs : List (List ℕ)) → DeskLegal (deskIn row rs) → number (field row loginField) ≤ 1 → number (field row markField) ≤ 1 → rowSound (length rs) row ≡ true
 unfolding deskOf fields upto
 legal-row row rs p login mark =
     row-test (length rs) row
@@ -130,13 +130,13 @@ legal-row row rs p login mark =
       login = login;
       mark = mark;
       start = p .table .start;
-      count = omega (arith, p .locks .few, locks-in-length (number (field row 8)) (field row 9));
+      count = omega (arith, p .locks .few, locks-in-length (number (field row countField)) (field row locksField));
       timer = p .timer;
       ram = p .ram .line;
       eeprom = p .eeprom .line;
-      full = λ q. p .table .mark (eq-eqb (number (field row 5)) 1 q);
+      full = λ q. p .table .mark (eq-eqb (number (field row markField)) 1 q);
       due = p .table .due;
-      locks = locks-test (number (field row 2)) (locksIn (number (field row 8)) (field row 9)) (p .locks);
+      locks = locks-test (number (field row validField)) (locksIn (number (field row countField)) (field row locksField)) (p .locks);
     }
 
 -- ---- the records of a desk
@@ -153,15 +153,15 @@ records-legal d (e ∷ es) w o = go (eqb (owner e) d) (records-legal d es (w .1)
 -- ---- a store
 
 module _ (s : List ℕ) (f : Sound s) (o : Octets s) where
-  used-fits : width * usedOf (header s) ≤ length (area s 2)
-  used-fits = omega (arith, f .head .used, area-length s f 2 (lit< tt))
+  used-fits : width * usedOf (header s) ≤ length (area s entriesArea)
+  used-fits = omega (arith, f .head .used, area-length s f entriesArea (lit< tt))
 
   pub records-of : (d : ℕ) → All RecordLegal (recordsOf d (inUse s))
   unfolding areas upto area
   records-of d =
       records-legal d (inUse s)
-      (rw (area-0 s) (rows-wide (usedOf (header s)) width (area s 2) used-fits))
-      (rows-octets (usedOf (area s 0)) width (area s 2) (octets-part (startOf (header s) 2) (sizeOf 2) s o))
+      (rw (area-0 s) (rows-wide (usedOf (header s)) width (area s entriesArea) used-fits))
+      (rows-octets (usedOf (area s headerArea)) width (area s entriesArea) (octets-part (startOf (header s) entriesArea) (sizeOf entriesArea) s o))
 
   pub shares-of : (d : ℕ) → d < desks → length (recordsOf d (inUse s)) ≤ share
   unfolding tableSound
@@ -189,7 +189,7 @@ pub view-legal : (s : List ℕ) → sound s ≡ true → Octets s → boxLegal (
 unfolding view viewOf
 view-legal s e o =
     let f : Sound s = sound-facts s e in
-    let size : length (rowsIn (areas s)) ≡ desks = rows-length desks rowWidth (getD (areas s) 1 []) in
+    let size : length (rowsIn (areas s)) ≡ desks = rows-length desks rowWidth (getD (areas s) rowsArea []) in
     box-test (view s)
     record {
       size = box-length 0 (rowsIn (areas s)) (inUse s) ∙ size;

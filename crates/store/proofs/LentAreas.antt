@@ -10,25 +10,25 @@ use Rattle.octets.proofs.Areas.{upto-at}
 use Rattle.octets.proofs.Puts.{part-part}
 use Rattle.octets.proofs.Rows.{rows-at}
 use Rattle.table.specs.Entries.{desks, width, entryCount, entries}
-use Rattle.store.specs.Layout.{rowWidth, sizeOf, header, startOf, usedOf, area, areas, rowAt}
+use Rattle.store.specs.Layout.{rowWidth, sizeOf, header, startOf, usedOf, area, areas, rowAt, headerArea, rowsArea, entriesArea, areaCount}
 use Rattle.store.specs.View.{rowsIn, entriesIn}
 
-pub areas-at : (s : List ℕ) (k : ℕ) → k < 3 → getD (areas s) k [] ≡ area s k
+pub areas-at : (s : List ℕ) (k : ℕ) → k < areaCount → getD (areas s) k [] ≡ area s k
 unfolding areas
-areas-at s k l = upto-at 3 (area s) k l
+areas-at s k l = upto-at areaCount (area s) k l
 
 -- area 0 is the header
-pub areas-header : (s : List ℕ) → getD (areas s) 0 [] ≡ header s
+pub areas-header : (s : List ℕ) → getD (areas s) headerArea [] ≡ header s
 unfolding area startOf header
-areas-header s = areas-at s 0 (lit< tt)
+areas-header s = areas-at s headerArea (lit< tt)
 
 -- the row of desk d, in the store
 pub row-in : (s : List ℕ) (d : ℕ) → d < desks → getD (rowsIn (areas s)) d [] ≡ part (rowAt d s) rowWidth s
 unfolding area
 row-in s d l =
-    ap (λ (a : List ℕ). getD (rows desks rowWidth a) d []) (areas-at s 1 (lit< tt))
-    ∙ rows-at desks rowWidth d (area s 1) l
-    ∙ part-part (rowWidth * d) rowWidth (startOf (header s) 1) (sizeOf 1) s (omega arith)
+    ap (λ (a : List ℕ). getD (rows desks rowWidth a) d []) (areas-at s rowsArea (lit< tt))
+    ∙ rows-at desks rowWidth d (area s rowsArea) l
+    ∙ part-part (rowWidth * d) rowWidth (startOf (header s) rowsArea) (sizeOf rowsArea) s (omega arith)
 
 -- that row, lent: at is where it begins
 pub row-lent : (s : List ℕ) (d at : ℕ) → d < desks → at ≡ rowAt d s → take (at + rowWidth - at) (drop at s) ≡ getD (rowsIn (areas s)) d []
@@ -36,9 +36,9 @@ unfolding part
 row-lent s d at l e = let n : at + rowWidth - at ≡ rowWidth = omega arith in rw (n, e) (sym (row-in s d l))
 
 -- the entries in use, in the area that is lent: at is where it begins, n how many they are
-pub entries-lent : (s : List ℕ) (at n : ℕ) → at ≡ startOf (header s) 2 → n ≡ usedOf (header s)
+pub entries-lent : (s : List ℕ) (at n : ℕ) → at ≡ startOf (header s) entriesArea → n ≡ usedOf (header s)
     → entries n (take (at + width * entryCount - at) (drop at s)) ≡ entriesIn (areas s)
 unfolding area part
 entries-lent s at n e u =
     let m : at + width * entryCount - at ≡ width * entryCount = omega arith in
-    rw (m, areas-header s, areas-at s 2 (lit< tt), e, u)
+    rw (m, areas-header s, areas-at s entriesArea (lit< tt), e, u)

@@ -16,32 +16,32 @@ use Rattle.octets.proofs.Every.{every-at, every-all}
 use Rattle.octets.proofs.Areas.{clear-apart, apart-clear}
 use Rattle.octets.proofs.Numbers.{u16At-away, u16At-put}
 use Rattle.table.specs.Entries.{entryCount}
-use Rattle.store.specs.Layout.{storeSize, sizeOf, startOf, usedOf}
+use Rattle.store.specs.Layout.{storeSize, sizeOf, startOf, usedOf, areaCount, headerSize, usedAt}
 use Rattle.store.specs.Sound.{ends, fine}
 
 pub record Fine (h : List ℕ) : Type 0 where
-  pub within : (k : ℕ) → k < 3 → startOf h k + sizeOf k ≤ storeSize
-  pub apart : (i j : ℕ) → i < 3 → j < 3 → (i ≡ j → ⊥) → Apart (startOf h i) (sizeOf i) (startOf h j) (sizeOf j)
+  pub within : (k : ℕ) → k < areaCount → startOf h k + sizeOf k ≤ storeSize
+  pub apart : (i j : ℕ) → i < areaCount → j < areaCount → (i ≡ j → ⊥) → Apart (startOf h i) (sizeOf i) (startOf h j) (sizeOf j)
   pub used : usedOf h ≤ entryCount
 
 pub fine-facts : (h : List ℕ) → fine h ≡ true → Fine h
 unfolding fine
 fine-facts h e =
-    let inside : every 3 (ends h) ≡ true = search (and-left, and-right) in
-    let apart : clear 3 (startOf h) sizeOf ≡ true = search (and-left, and-right) in
+    let inside : every areaCount (ends h) ≡ true = search (and-left, and-right) in
+    let apart : clear areaCount (startOf h) sizeOf ≡ true = search (and-left, and-right) in
     record {
-      within = λ k l. leb-true _ _ (every-at 3 (ends h) k inside l);
-      apart = clear-apart 3 (startOf h) sizeOf apart;
+      within = λ k l. leb-true _ _ (every-at areaCount (ends h) k inside l);
+      apart = clear-apart areaCount (startOf h) sizeOf apart;
       used = leb-true _ _ (search (and-left, and-right));
     }
 
 pub fine-test : (h : List ℕ) → Fine h → fine h ≡ true
 unfolding fine
 fine-test h f =
-    rw (every-all 3 (ends h) (λ k l. le-leb _ _ (f .within k l)), apart-clear 3 (startOf h) sizeOf (f .apart), le-leb _ _ (f .used))
+    rw (every-all areaCount (ends h) (λ k l. le-leb _ _ (f .within k l)), apart-clear areaCount (startOf h) sizeOf (f .apart), le-leb _ _ (f .used))
 
 -- a header that says the same places, and a count in range
-same-places : (h h′ : List ℕ) → Fine h → ((j : ℕ) → j < 3 → startOf h′ j ≡ startOf h j) → usedOf h′ ≤ entryCount → Fine h′
+same-places : (h h′ : List ℕ) → Fine h → ((j : ℕ) → j < areaCount → startOf h′ j ≡ startOf h j) → usedOf h′ ≤ entryCount → Fine h′
 same-places h h′ f p c =
     record {
       within = λ j b. rw (p j b) (f .within j b);
@@ -51,14 +51,14 @@ same-places h h′ f p c =
 
 -- ---- a header with another count
 
-pub start-counted : (c : ℕ) (h : List ℕ) (j : ℕ) → j < 3 → startOf (put 4 (octets 2 c) h) j ≡ startOf h j
+pub start-counted : (c : ℕ) (h : List ℕ) (j : ℕ) → j < areaCount → startOf (put usedAt (octets 2 c) h) j ≡ startOf h j
 unfolding startOf
 start-counted c h zero l = refl
 start-counted c h (suc j) l = u16At-away (j * 2) 4 (octets 2 c) h (inr (omega arith))
 
-pub used-counted : (c : ℕ) (h : List ℕ) → c ≤ entryCount → length h ≡ 6 → usedOf (put 4 (octets 2 c) h) ≡ c
+pub used-counted : (c : ℕ) (h : List ℕ) → c ≤ entryCount → length h ≡ headerSize → usedOf (put usedAt (octets 2 c) h) ≡ c
 unfolding usedOf
-used-counted c h few l = u16At-put 4 c h (omega arith) (omega arith)
+used-counted c h few l = u16At-put usedAt c h (omega arith) (omega arith)
 
-pub counted-fine : (c : ℕ) (h : List ℕ) → Fine h → c ≤ entryCount → length h ≡ 6 → Fine (put 4 (octets 2 c) h)
+pub counted-fine : (c : ℕ) (h : List ℕ) → Fine h → c ≤ entryCount → length h ≡ headerSize → Fine (put usedAt (octets 2 c) h)
 counted-fine c h f few l = same-places h _ f (start-counted c h) (rw (used-counted c h few l) few)

@@ -10,21 +10,21 @@ use Rattle.locks.specs.Locks.{locksIn}
 use Rattle.table.specs.Entries.{desks, entries, recordsOf}
 use Rattle.rules.specs.Desk.{Desk}
 use Rattle.rules.specs.Box.{Box}
-use Rattle.store.specs.Layout.{rowWidth, usedOf, areas}
-use Rattle.store.specs.Rows.{fields}
+use Rattle.store.specs.Layout.{headerArea, rowsArea, entriesArea, rowWidth, usedOf, areas}
+use Rattle.store.specs.Rows.{ramField, eepromField, validField, loginField, timerField, markField, dueField, startField, countField, locksField, fields}
 
 -- the desk that the fields of a row say, with the records rs
 unfoldable pub deskOf : List (List ℕ) → List (List ℕ) → Desk
 deskOf fs rs =
     record {
-      ram = getD fs 0 [];
-      eeprom = getD fs 1 [];
-      valid = number (getD fs 2 []);
-      loggedIn = eqb (number (getD fs 3 [])) 1;
-      timer = timerFrom (getD fs 4 []);
-      locks = locksIn (number (getD fs 8 [])) (getD fs 9 []);
+      ram = getD fs ramField [];
+      eeprom = getD fs eepromField [];
+      valid = number (getD fs validField []);
+      loggedIn = eqb (number (getD fs loginField [])) 1;
+      timer = timerFrom (getD fs timerField []);
+      locks = locksIn (number (getD fs countField [])) (getD fs locksField []);
       table =
-          record { held = rs; overflow = eqb (number (getD fs 5 [])) 1; due = number (getD fs 6 []); start = number (getD fs 7 []) };
+          record { held = rs; overflow = eqb (number (getD fs markField [])) 1; due = number (getD fs dueField []); start = number (getD fs startField []) };
     }
 
 abbrev pub deskIn : List ℕ → List (List ℕ) → Desk
@@ -37,10 +37,10 @@ boxFrom d (row ∷ rest) es = deskIn row (recordsOf d es) ∷ boxFrom (suc d) re
 
 -- by the areas: the rows, and the entries in use
 abbrev pub rowsIn : List (List ℕ) → List (List ℕ)
-rowsIn all = rows desks rowWidth (getD all 1 [])
+rowsIn all = rows desks rowWidth (getD all rowsArea [])
 
 abbrev pub entriesIn : List (List ℕ) → List (List ℕ)
-entriesIn all = entries (usedOf (getD all 0 [])) (getD all 2 [])
+entriesIn all = entries (usedOf (getD all headerArea [])) (getD all entriesArea [])
 
 -- the entries in use of a store
 abbrev pub inUse : List ℕ → List (List ℕ)

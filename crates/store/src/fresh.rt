@@ -4,15 +4,31 @@ ghost use Prim.Native.Nat.{_+_, _≤_, _<_};
 ghost use lib.ListN.{length, replicate};
 ghost use Rattle.octets.specs.Parts.{put, joined};
 ghost use Rattle.table.specs.Entries.{desks};
-ghost use Rattle.rules.specs.Config.{blockAt, written, defaults};
-ghost use Rattle.store.specs.Layout.{storeSize, rowWidth};
-ghost use Rattle.store.specs.Fresh.{freshRow, freshHeader, freshStore};
+ghost use Rattle.rules.specs.Config.{blockCount, memorySize, blockAt, written, defaults};
+ghost use Rattle.store.specs.Layout.{storeSize, headerSize, rowWidth};
+ghost use Rattle.store.specs.Fresh.{rowsBegin, entriesBegin, freshRow, freshHeader, freshStore};
+use super::EEPROM;
+use super::HEADER;
 use super::LOGIN;
+use super::RAM;
 use super::ROW;
 use super::SIZE;
+use super::USED;
+use super::VALID;
+
+// Where the entries begin, behind the rows, which begin right behind the header.
+const ENTRIES_BEGIN: usize = HEADER + ROW * table::DESKS;
+
+// The offsets, as the header holds them.
+const ROWS_OFFSET: u16 = HEADER as u16;
+
+const ENTRIES_OFFSET: u16 = ENTRIES_BEGIN as u16;
+
+// VALID-TIME of the defaults.
+const VALID_TIME: u16 = 55;
 
 // The default configuration, block by block.
-const DEFAULTS: [[u8; 14]; 16] = [
+const DEFAULTS: [[u8; rules::BLOCK]; rules::BLOCKS] = [
     [0, 0, 0, 0, 0, 0, 0, 0, 0, 0, 0, 0, 0, 0],
     [0, 0, 0, 0, 0, 0, 0, 0, 0, 0, 0, 0, 0, 0],
     [0, 0, 0, 0, 0, 0, 0, 0, 0, 0, 0, 0, 0, 0],
@@ -32,28 +48,28 @@ const DEFAULTS: [[u8; 14]; 16] = [
 ];
 
 // Block k of the defaults.
-pub fn default_block(k: usize) -> [u8; 14]
-    requires { ⌜ k < 16 ⌝ }
+pub fn default_block(k: usize) -> [u8; rules::BLOCK]
+    requires { ⌜ k < blockCount ⌝ }
     ensures { λ r. ⌜ r ≡ blockAt k defaults ⌝ }
 {
     DEFAULTS[k]
 }
 
 // Writes block k of a memory.
-pub fn put_block(memory: &mut [u8], k: usize, block: [u8; 14])
-    requires { ⌜ (k < 16) × (224 ≤ length (now memory)) ⌝ }
+pub fn put_block(memory: &mut [u8], k: usize, block: [u8; rules::BLOCK])
+    requires { ⌜ (k < blockCount) × (memorySize ≤ length (now memory)) ⌝ }
     ensures { λ _. ⌜ now (memory .exit) ≡ written k block (now (memory .entry)) ⌝ }
 {
-    octets::copy_to(memory, 14 * k, &block);
+    octets::copy_to(memory, rules::BLOCK * k, &block);
 }
 
 // Writes the defaults to a memory.
 pub fn put_defaults(memory: &mut [u8])
-    requires { ⌜ 224 ≤ length (now memory) ⌝ }
+    requires { ⌜ memorySize ≤ length (now memory) ⌝ }
     ensures { λ _. ⌜ now (memory .exit) ≡ put 0 defaults (now (memory .entry)) ⌝ }
 {
     let mut k: usize = 0;
-    while k < 16 {
+    while k < rules::BLOCKS {
         put_block(memory, k, default_block(k));
         k += 1;
     }
@@ -61,10 +77,10 @@ pub fn put_defaults(memory: &mut [u8])
 
 // Writes the defaults to the memory that begins at a place of a row.
 pub fn put_memory(row: &mut [u8], at: usize)
-    requires { ⌜ at + 224 ≤ length (now row) ⌝ }
+    requires { ⌜ at + memorySize ≤ length (now row) ⌝ }
     ensures { λ _. ⌜ now (row .exit) ≡ put at defaults (now (row .entry)) ⌝ }
 {
-    put_defaults(&mut row[at..at + 224]);
+    put_defaults(&mut row[at..at + rules::MEMORY]);
 }
 
 // Makes a row be a fresh desk's.
@@ -73,29 +89,29 @@ fn fresh_row(row: &mut [u8])
     ensures { λ _. ⌜ now (row .exit) ≡ freshRow ⌝ }
 {
     octets::fill(&mut row[LOGIN..ROW], 0);
-    put_memory(row, 0);
-    put_memory(row, 224);
-    octets::put16(row, 448, 55);
+    put_memory(row, RAM);
+    put_memory(row, EEPROM);
+    octets::put16(row, VALID, VALID_TIME);
 }
 
 // Writes the header: where the rows begin, where the entries begin, and that none of these is in use.
 fn put_header(s: &mut [u8])
-    requires { ⌜ 6 ≤ length (now s) ⌝ }
+    requires { ⌜ headerSize ≤ length (now s) ⌝ }
     ensures { λ _. ⌜ now (s .exit) ≡ put 0 freshHeader (now (s .entry)) ⌝ }
 {
-    octets::put16(s, 0, 6);
-    octets::put16(s, 2, 8798);
-    octets::put16(s, 4, 0);
+    octets::put16(s, 0, ROWS_OFFSET);
+    octets::put16(s, 2, ENTRIES_OFFSET);
+    octets::put16(s, USED, 0);
 }
 
 // Writes the rows behind the header.
 fn put_rows(s: &mut [u8])
-    requires { ⌜ 8798 ≤ length (now s) ⌝ }
-    ensures { λ _. ⌜ now (s .exit) ≡ put 6 (joined (replicate desks freshRow)) (now (s .entry)) ⌝ }
+    requires { ⌜ entriesBegin ≤ length (now s) ⌝ }
+    ensures { λ _. ⌜ now (s .exit) ≡ put rowsBegin (joined (replicate desks freshRow)) (now (s .entry)) ⌝ }
 {
     let mut d: usize = 0;
-    while d < 8 {
-        let at = 6 + ROW * d;
+    while d < table::DESKS {
+        let at = HEADER + ROW * d;
         fresh_row(&mut s[at..at + ROW]);
         d += 1;
     }
@@ -106,7 +122,7 @@ pub fn make(s: &mut [u8])
     requires { ⌜ length (now s) ≡ storeSize ⌝ }
     ensures { λ _. ⌜ now (s .exit) ≡ freshStore ⌝ }
 {
-    octets::fill(&mut s[8798..SIZE], 0);
+    octets::fill(&mut s[ENTRIES_BEGIN..SIZE], 0);
     put_header(s);
     put_rows(s);
 }

@@ -2,55 +2,78 @@
 ghost use mathlib.Core.Path.{_≡_};
 ghost use Prim.Native.Nat.{_≤_, _<_};
 ghost use lib.ListN.{length};
-ghost use Rattle.store.specs.Layout.{sizeOf, header, startOf, usedOf, rowAt};
+ghost use Rattle.table.specs.Entries.{desks};
+ghost use Rattle.store.specs.Layout.{storeSize, areaCount, headerSize, sizeOf, header, startOf, usedOf, rowAt};
 
 pub mod fresh;
 pub mod sound;
 
-// The store's octets, a row's, the table's and how many entries it has, and those of the areas: the header, the rows, the table.
-pub const SIZE: usize = 16384;
+// The store's octets.
+pub const SIZE: usize = 40960;
 
-pub const ROW: usize = 1099;
+// Where the fields of a row begin, from its first octet on: each right behind the one before it.
+pub const RAM: usize = 0;
 
-pub const TABLE: usize = 7168;
+pub const EEPROM: usize = RAM + rules::MEMORY;
 
+pub const VALID: usize = EEPROM + rules::MEMORY;
+
+pub const LOGIN: usize = VALID + 2;
+
+pub const TIMER: usize = LOGIN + 1;
+
+pub const MARK: usize = TIMER + 4;
+
+pub const DUE: usize = MARK + 1;
+
+pub const TAB_START: usize = DUE + 1;
+
+pub const LOCKED: usize = TAB_START + 1;
+
+pub const LOCKS: usize = LOCKED + 1;
+
+// A lock's octets, how many locks a row has room for, and a row's octets.
+pub const LOCK: usize = 10;
+
+pub const MOST_LOCKS: u8 = 64;
+
+pub const ROW: usize = LOCKS + LOCK * MOST_LOCKS as usize;
+
+// How many entries the table has, and its octets.
 pub const ENTRIES: usize = 512;
 
-const SIZES: [usize; 3] = [6, 8792, TABLE];
+pub const TABLE: usize = table::WIDTH * ENTRIES;
 
-// Where the fields of a row begin, from its first octet on: RAM is at 0.
-pub const EEPROM: usize = 224;
+// The areas: the header, the rows, the entries; how many they are, and the octets of each.
+pub const HEADER_AREA: usize = 0;
 
-pub const VALID: usize = 448;
+pub const ROWS_AREA: usize = 1;
 
-pub const LOGIN: usize = 450;
+pub const ENTRIES_AREA: usize = 2;
 
-pub const TIMER: usize = 451;
+const AREAS: usize = 3;
 
-pub const MARK: usize = 455;
+const SIZES: [usize; AREAS] = [HEADER, ROW * table::DESKS, TABLE];
 
-pub const DUE: usize = 456;
+// In the header: the count of entries in use, behind an offset of two octets for each other area; and the header's octets.
+const USED: usize = (AREAS - 1) * 2;
 
-pub const TAB_START: usize = 457;
-
-pub const LOCKED: usize = 458;
-
-pub const LOCKS: usize = 459;
+pub const HEADER: usize = USED + 2;
 
 // How many octets area k has.
 pub fn size(k: usize) -> usize
-    requires { ⌜ k < 3 ⌝ }
-    ensures { λ r. ⌜ (r ≡ sizeOf k) × (r ≤ 8792) ⌝ }
+    requires { ⌜ k < areaCount ⌝ }
+    ensures { λ r. ⌜ (r ≡ sizeOf k) × (r ≤ storeSize) ⌝ }
 {
     SIZES[k]
 }
 
 // Where area k begins.
 pub fn start(s: &[u8], k: usize) -> usize
-    requires { ⌜ (k < 3) × (6 ≤ length (now s)) ⌝ }
+    requires { ⌜ (k < areaCount) × (headerSize ≤ length (now s)) ⌝ }
     ensures { λ r. ⌜ (r ≡ startOf (header (now (s .entry))) k) × (r ≤ 65535) ⌝ }
 {
-    if k == 0 {
+    if k == HEADER_AREA {
         return 0;
     }
     octets::get16(s, (k - 1) * 2) as usize
@@ -58,16 +81,16 @@ pub fn start(s: &[u8], k: usize) -> usize
 
 // How many entries are in use.
 pub fn used(s: &[u8]) -> usize
-    requires { ⌜ 6 ≤ length (now s) ⌝ }
+    requires { ⌜ headerSize ≤ length (now s) ⌝ }
     ensures { λ r. ⌜ (r ≡ usedOf (header (now (s .entry)))) × (r ≤ 65535) ⌝ }
 {
-    octets::get16(s, 4) as usize
+    octets::get16(s, USED) as usize
 }
 
 // Where the row of desk d begins.
 pub fn row_at(s: &[u8], d: usize) -> usize
-    requires { ⌜ (d < 8) × (6 ≤ length (now s)) ⌝ }
+    requires { ⌜ (d < desks) × (headerSize ≤ length (now s)) ⌝ }
     ensures { λ r. ⌜ (r ≡ rowAt d (now (s .entry))) × (r ≤ 100000) ⌝ }
 {
-    start(s, 1) + ROW * d
+    start(s, ROWS_AREA) + ROW * d
 }

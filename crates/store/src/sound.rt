@@ -1,11 +1,15 @@
 // Whether a store is sound: the header first, then what its areas hold. Areas and rows are lent and never copied.
+use crate::AREAS;
 use crate::DUE;
 use crate::EEPROM;
 use crate::ENTRIES;
+use crate::ENTRIES_AREA;
 use crate::LOCKED;
 use crate::LOCKS;
 use crate::LOGIN;
 use crate::MARK;
+use crate::MOST_LOCKS;
+use crate::RAM;
 use crate::ROW;
 use crate::SIZE;
 use crate::TAB_START;
@@ -25,11 +29,26 @@ ghost use Rattle.octets.specs.Tests.{every};
 ghost use Rattle.octets.specs.Parts.{part};
 ghost use Rattle.octets.specs.Areas.{apartb, pairClear, clearBelow, clear};
 ghost use Rattle.timer.specs.Clock.{timerLegal, timerFrom};
-ghost use Rattle.rules.specs.Config.{blockAt, lineLegal};
-ghost use Rattle.store.specs.Layout.{storeSize, rowWidth, sizeOf, header, startOf, areas};
-ghost use Rattle.store.specs.Rows.{fields};
+ghost use Rattle.table.specs.Entries.{desks};
+ghost use Rattle.rules.specs.Config.{memorySize, blockAt, lineLegal};
+ghost use Rattle.store.specs.Layout.{storeSize, areaCount, headerSize, rowWidth, sizeOf, header, startOf, areas};
+ghost use Rattle.store.specs.Rows.{timerField, fields};
 ghost use Rattle.store.specs.View.{rowsIn};
 ghost use Rattle.store.specs.Sound.{ends, fine, countsRight, blocksLegal, markRight, dueRight, locksRight, rowSound, contents, sound};
+
+// How many records a desk may hold, as an octet.
+const SHARE: u8 = table::SHARE as u8;
+
+// Where in a memory block 7 begins, and the octets of it that have rules.
+const LINE: usize = rules::BLOCK * 7;
+
+const DB_USE: usize = LINE;
+
+const SEP_CHAR: usize = LINE + 1;
+
+const END_CHAR: usize = LINE + 3;
+
+const LEN_USR: usize = LINE + 13;
 
 // ---- the header
 
@@ -46,7 +65,7 @@ fn apart(at: usize, n: usize, there: usize, m: usize) -> bool
 
 // Whether area k ends within the store.
 fn inside(s: &[u8], k: usize) -> bool
-    requires { ⌜ (k < 3) × (6 ≤ length (now s)) ⌝ }
+    requires { ⌜ (k < areaCount) × (headerSize ≤ length (now s)) ⌝ }
     ensures { λ r. ⌜ r ≡ ends (header (now (s .entry))) k ⌝ }
 {
     start(s, k) + size(k) <= SIZE
@@ -54,7 +73,7 @@ fn inside(s: &[u8], k: usize) -> bool
 
 // Whether areas i and j share no octet.
 fn clear_pair(s: &[u8], i: usize, j: usize) -> bool
-    requires { ⌜ (i < 3) × (j < 3) × (6 ≤ length (now s)) ⌝ }
+    requires { ⌜ (i < areaCount) × (j < areaCount) × (headerSize ≤ length (now s)) ⌝ }
     ensures { λ r. ⌜ r ≡ pairClear (startOf (header (now (s .entry)))) sizeOf j i ⌝ }
 {
     apart(start(s, i), size(i), start(s, j), size(j))
@@ -62,11 +81,11 @@ fn clear_pair(s: &[u8], i: usize, j: usize) -> bool
 
 // Whether each area ends within the store.
 fn all_inside(s: &[u8]) -> bool
-    requires { ⌜ 6 ≤ length (now s) ⌝ }
-    ensures { λ r. ⌜ r ≡ every 3 (ends (header (now (s .entry)))) ⌝ }
+    requires { ⌜ headerSize ≤ length (now s) ⌝ }
+    ensures { λ r. ⌜ r ≡ every areaCount (ends (header (now (s .entry)))) ⌝ }
 {
     let mut k: usize = 0;
-    while k < 3 {
+    while k < AREAS {
         if !inside(s, k) {
             return false;
         }
@@ -77,7 +96,7 @@ fn all_inside(s: &[u8]) -> bool
 
 // Whether area j shares no octet with an area before it.
 fn clear_below(s: &[u8], j: usize) -> bool
-    requires { ⌜ (j < 3) × (6 ≤ length (now s)) ⌝ }
+    requires { ⌜ (j < areaCount) × (headerSize ≤ length (now s)) ⌝ }
     ensures { λ r. ⌜ r ≡ clearBelow (startOf (header (now (s .entry)))) sizeOf j ⌝ }
 {
     let mut i: usize = 0;
@@ -92,11 +111,11 @@ fn clear_below(s: &[u8], j: usize) -> bool
 
 // Whether no two areas share an octet.
 fn all_clear(s: &[u8]) -> bool
-    requires { ⌜ 6 ≤ length (now s) ⌝ }
-    ensures { λ r. ⌜ r ≡ clear 3 (startOf (header (now (s .entry)))) sizeOf ⌝ }
+    requires { ⌜ headerSize ≤ length (now s) ⌝ }
+    ensures { λ r. ⌜ r ≡ clear areaCount (startOf (header (now (s .entry)))) sizeOf ⌝ }
 {
     let mut j: usize = 0;
-    while j < 3 {
+    while j < AREAS {
         if !clear_below(s, j) {
             return false;
         }
@@ -107,7 +126,7 @@ fn all_clear(s: &[u8]) -> bool
 
 // Whether the header is: areas inside and clear of each other, the count of entries in range.
 fn header_fine(s: &[u8]) -> bool
-    requires { ⌜ 6 ≤ length (now s) ⌝ }
+    requires { ⌜ headerSize ≤ length (now s) ⌝ }
     ensures { λ r. ⌜ r ≡ fine (header (now (s .entry))) ⌝ }
 {
     if !all_inside(s) {
@@ -132,26 +151,31 @@ fn counts_right(row: &[u8]) -> bool
     if row[MARK] > 1 {
         return false;
     }
-    if row[TAB_START] >= 64 {
+    if row[TAB_START] >= SHARE {
         return false;
     }
-    row[LOCKED] <= 64
+    row[LOCKED] <= MOST_LOCKS
 }
 
 // Whether the timer is in its ranges.
 fn timer_right(row: &[u8]) -> bool
     requires { ⌜ length (now row) ≡ rowWidth ⌝ }
-    ensures { λ r. ⌜ r ≡ timerLegal (timerFrom (getD (fields (now (row .entry))) 4 [])) ⌝ }
+    ensures { λ r. ⌜ r ≡ timerLegal (timerFrom (getD (fields (now (row .entry))) timerField [])) ⌝ }
 {
     timer::legal(timer::read(row, TIMER))
 }
 
-// Whether block 7 of the memory at a place of the row is legal: it begins at the memory's octet 98.
+// Whether block 7 of the memory at a place of the row is legal.
 fn block_legal(row: &[u8], at: usize) -> bool
-    requires { ⌜ at + 224 ≤ length (now row) ⌝ }
-    ensures { λ r. ⌜ r ≡ lineLegal (blockAt 7 (part at 224 (now (row .entry)))) ⌝ }
+    requires { ⌜ at + memorySize ≤ length (now row) ⌝ }
+    ensures { λ r. ⌜ r ≡ lineLegal (blockAt 7 (part at memorySize (now (row .entry)))) ⌝ }
 {
-    rules::shape_legal(row[at + 98], row[at + 99], row[at + 101], row[at + 111])
+    rules::shape_legal(
+        row[at + DB_USE],
+        row[at + SEP_CHAR],
+        row[at + END_CHAR],
+        row[at + LEN_USR],
+    )
 }
 
 // Whether block 7 of both memories is legal.
@@ -159,7 +183,7 @@ fn blocks_legal(row: &[u8]) -> bool
     requires { ⌜ length (now row) ≡ rowWidth ⌝ }
     ensures { λ r. ⌜ r ≡ blocksLegal (fields (now (row .entry))) ⌝ }
 {
-    if !block_legal(row, 0) {
+    if !block_legal(row, RAM) {
         return false;
     }
     block_legal(row, EEPROM)
@@ -223,7 +247,7 @@ fn row_sound(row: &[u8], held: u16) -> bool
 
 // Whether the row of desk d is sound, which holds so many records.
 fn desk_sound(s: &[u8], d: usize, held: u16) -> bool
-    requires { ⌜ (d < 8) × (length (now s) ≡ storeSize) × (fine (header (now s)) ≡ true) ⌝ }
+    requires { ⌜ (d < desks) × (length (now s) ≡ storeSize) × (fine (header (now s)) ≡ true) ⌝ }
     ensures { λ r. ⌜ r ≡ rowSound held (getD (rowsIn (areas (now (s .entry)))) d []) ⌝ }
 {
     let at = row_at(s, d);
@@ -235,7 +259,7 @@ fn contents_sound(s: &[u8]) -> bool
     requires { ⌜ (length (now s) ≡ storeSize) × (fine (header (now s)) ≡ true) ⌝ }
     ensures { λ r. ⌜ r ≡ contents (areas (now (s .entry))) ⌝ }
 {
-    let at = start(s, 2);
+    let at = start(s, ENTRIES_AREA);
     let n = used(s);
     let c = table::census(&s[at..at + TABLE], n);
     if !c.ok {
@@ -246,7 +270,7 @@ fn contents_sound(s: &[u8]) -> bool
         return false;
     }
     let mut d: usize = 0;
-    while d < 8 {
+    while d < table::DESKS {
         if !desk_sound(s, d, counts[d]) {
             return false;
         }

@@ -5,7 +5,7 @@ use native.Mathlib.Omega.{arith}
 use lib.ListN.{length, take}
 use Rattle.octets.specs.Parts.{put}
 use Rattle.octets.proofs.Puts.{put-length}
-use Rattle.rules.specs.Config.{defaults}
+use Rattle.rules.specs.Config.{blockSize, blockCount, defaults}
 use Rattle.rules.proofs.Memories.{defaults-legal}
 use Rattle.store.proofs.Blocks.{written-next, written-all}
 use borrow.Author.Needs.{needs}
@@ -13,10 +13,10 @@ use Rattle.store.proofs.fresh.put_defaults.Statement.{statement}
 use Rattle.store.proofs.fresh.put_defaults.Tie as tie
 
 abbrev Inv-loop : tie.InvT-loop
-Inv-loop memory₀ k₀ memory k = (k ≤ 16) × (length memory ≡ length memory₀) × (memory ≡ put 0 (take (14 * k) defaults) memory₀)
+Inv-loop memory₀ k₀ memory k = (k ≤ blockCount) × (length memory ≡ length memory₀) × (memory ≡ put 0 (take (blockSize * k) defaults) memory₀)
 
 abbrev μ-loop : tie.MeasureT-loop
-μ-loop memory₀ k₀ memory k = 16 - k
+μ-loop memory₀ k₀ memory k = blockCount - k
 
 loop-holds : tie.Need-loop-holds Inv-loop μ-loop
 unfolding put
@@ -27,7 +27,7 @@ loop-again c =
     let z = c .before .before .before .before .before .before in
     let m = z .before .before .args .memory .now in
     let k = z .loop .k in
-    let e : c .before .before .put-block .last .0 ≡ put 0 (take (14 * (k + 1)) defaults) m =
+    let e : c .before .before .put-block .last .0 ≡ put 0 (take (blockSize * (k + 1)) defaults) m =
     c .before .before .put-block .ensures
     ∙ rw (c .before .before .before .default-block .ensures, z .loop .inv .2) (written-next k defaults m (omega (arith, defaults-legal .size)))
     in

@@ -7,15 +7,15 @@ use Rattle.octets.proofs.Tests.{passed, failed}
 use Rattle.octets.specs.Tests.{every}
 use Rattle.octets.proofs.Every.{every-none, every-more, every-false, every-end}
 use Rattle.octets.specs.Areas.{clearBelow}
-use Rattle.store.specs.Layout.{header, startOf, sizeOf}
+use Rattle.store.specs.Layout.{header, startOf, sizeOf, areaCount}
 use Rattle.store.proofs.sound.all_clear.Statement.{statement}
 use Rattle.store.proofs.sound.all_clear.Tie as tie
 
 abbrev Inv-loop : tie.InvT-loop
-Inv-loop s j₀ j = (j ≤ 3) × (every j (clearBelow (startOf (header s)) sizeOf) ≡ true)
+Inv-loop s j₀ j = (j ≤ areaCount) × (every j (clearBelow (startOf (header s)) sizeOf) ≡ true)
 
 abbrev μ-loop : tie.MeasureT-loop
-μ-loop s j₀ j = 3 - j
+μ-loop s j₀ j = areaCount - j
 
 loop-holds : tie.Need-loop-holds Inv-loop μ-loop
 loop-holds c = (omega arith, every-none _)

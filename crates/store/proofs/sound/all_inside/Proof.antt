@@ -6,16 +6,16 @@ use native.Mathlib.Omega.{arith}
 use Rattle.octets.proofs.Tests.{passed, failed}
 use Rattle.octets.specs.Tests.{every}
 use Rattle.octets.proofs.Every.{every-none, every-more, every-false, every-end}
-use Rattle.store.specs.Layout.{header}
+use Rattle.store.specs.Layout.{header, areaCount}
 use Rattle.store.specs.Sound.{ends}
 use Rattle.store.proofs.sound.all_inside.Statement.{statement}
 use Rattle.store.proofs.sound.all_inside.Tie as tie
 
 abbrev Inv-loop : tie.InvT-loop
-Inv-loop s k₀ k = (k ≤ 3) × (every k (ends (header s)) ≡ true)
+Inv-loop s k₀ k = (k ≤ areaCount) × (every k (ends (header s)) ≡ true)
 
 abbrev μ-loop : tie.MeasureT-loop
-μ-loop s k₀ k = 3 - k
+μ-loop s k₀ k = areaCount - k
 
 loop-holds : tie.Need-loop-holds Inv-loop μ-loop
 loop-holds c = (omega arith, every-none _)

@@ -10,7 +10,7 @@ use Rattle.octets.proofs.Tests.{passed, failed}
 use Rattle.octets.proofs.Every.{every-none, every-more, every-false, every-end}
 use Rattle.table.specs.Entries.{desks, ownersBelow, sharesKept, Counted}
 use Rattle.table.proofs.Tallies.{counted-shares}
-use Rattle.store.specs.Layout.{areas}
+use Rattle.store.specs.Layout.{areas, entriesArea}
 use Rattle.store.specs.View.{rowsIn, entriesIn}
 use Rattle.store.specs.Sound.{tableSound, deskSound, contents}
 use Rattle.store.proofs.Places.{fine-facts}
@@ -26,12 +26,12 @@ abbrev μ-loop : tie.MeasureT-loop
 μ-loop s at n counts d₀ d = desks - d
 
 part-census-end : tie.Need-part-census-end Inv-loop μ-loop
-part-census-end c = omega (arith, fine-facts _ (c .before .before .before .pre .1) .within 2 (lit< tt))
+part-census-end c = omega (arith, fine-facts _ (c .before .before .before .pre .1) .within entriesArea (lit< tt))
 
 census-requires : tie.Need-census-requires Inv-loop μ-loop
 census-requires c κs =
     let f = fine-facts _ (c .before .before .before .before .pre .1) in
-    simp (length-take, length-drop) (omega (arith, f .within 2 (lit< tt), f .used), omega (arith, f .used))
+    simp (length-take, length-drop) (omega (arith, f .within entriesArea (lit< tt), f .used), omega (arith, f .used))
 
 -- the count is of the entries in use
 counted : (c : tie.After-census Inv-loop μ-loop) → Counted (entriesIn (areas (c .before .before .before .before .before .args .s .now))) (c .census .result)

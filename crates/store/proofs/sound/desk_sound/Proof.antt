@@ -1,6 +1,7 @@
 -- `store::sound::desk_sound` meets its contract. Assumes nothing.
 use native.Mathlib.Omega.{arith}
 use lib.Dec.{lit<}
+use Rattle.store.specs.Layout.{rowsArea}
 use Rattle.store.proofs.Places.{fine-facts}
 use Rattle.store.proofs.LentAreas.{row-lent}
 use borrow.Author.Needs.{needs}
@@ -8,7 +9,7 @@ use Rattle.store.proofs.sound.desk_sound.Statement.{statement}
 use Rattle.store.proofs.sound.desk_sound.Tie as tie
 
 part-row-sound-end : tie.Need-part-row-sound-end
-part-row-sound-end c = omega (arith, fine-facts _ (c .before .before .pre .2) .within 1 (lit< tt))
+part-row-sound-end c = omega (arith, fine-facts _ (c .before .before .pre .2) .within rowsArea (lit< tt))
 
 returns : tie.Need-returns
 returns c =

@@ -2,7 +2,7 @@
 use mathlib.Core.Path.{refl}
 use lib.Dec.{lit<}
 use native.Mathlib.Omega.{arith}
-use Rattle.store.specs.Rows.{dueAt}
+use Rattle.store.specs.Rows.{dueAt, dueField}
 use Rattle.store.specs.Sound.{dueRight}
 use Rattle.store.proofs.FieldOctets.{field-octet}
 use borrow.Author.Needs.{needs}
@@ -14,7 +14,7 @@ cast-result c = omega (arith, c .shared-slice-known .given dueAt)
 
 returns : tie.Need-returns
 unfolding dueRight
-returns c = rw (field-octet (c .before .args .row .now) 6 (lit< tt) refl) refl
+returns c = rw (field-octet (c .before .args .row .now) dueField (lit< tt) refl) refl
 
 pub due-right-spec : {M : Type 1} → statement M
 due-right-spec = tie.close (tie.spec (λ c. search needs) cast-result returns)

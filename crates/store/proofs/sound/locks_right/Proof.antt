@@ -5,7 +5,8 @@ use lib.Dec.{lit<}
 use lib.ListN.{getD, length-take, length-drop}
 use native.Mathlib.Omega.{arith}
 use Rattle.octets.specs.Parts.{part}
-use Rattle.store.specs.Rows.{countAt}
+use Rattle.locks.specs.Locks.{mostLocks}
+use Rattle.store.specs.Rows.{countAt, validField, countField, locksField}
 use Rattle.store.specs.Sound.{locksRight}
 use Rattle.store.proofs.FieldOctets.{field-part, field-octet, field-pair, locks-few}
 use borrow.Author.Needs.{needs}
@@ -18,14 +19,14 @@ cast-legal c = omega (arith, c .shared-slice-known2 .given countAt)
 legal-requires : tie.Need-legal-requires
 legal-requires c κs =
     let z = c .before .before .before .before in
-    let few : getD (z .args .row .now) countAt 0 ≤ 64 = locks-few _ (z .pre .1) in
+    let few : getD (z .args .row .now) countAt 0 ≤ mostLocks = locks-few _ (z .pre .1) in
     (few, simp (length-take, length-drop) (omega arith))
 
 returns : tie.Need-returns
 unfolding locksRight part
 returns c =
     let row = c .before .before .before .before .before .args .row .now in
-    rw (field-pair row 2 (lit< tt) refl, field-octet row 8 (lit< tt) refl, field-part row 9 (lit< tt), ← c .before .get16 .ensures) (c .legal .ensures)
+    rw (field-pair row validField (lit< tt) refl, field-octet row countField (lit< tt) refl, field-part row locksField (lit< tt), ← c .before .get16 .ensures) (c .legal .ensures)
 
 pub locks-right-spec : {M : Type 1} → statement M
 locks-right-spec =
