@@ -17,7 +17,7 @@ use Rattle.store.specs.Layout.{rowWidth}
 use Rattle.store.specs.Rows.{fieldAt, fieldSize, fields}
 use Rattle.store.specs.View.{deskOf, deskIn}
 use Rattle.store.proofs.Fields.{fields-into, fields-over}
-use Rattle.rows.specs.Fields.{loginField, markField, fieldCount}
+use Rattle.store.specs.Rows.{loginField, markField, fieldCount}
 use Rattle.rows.specs.Change.{Fit, Change}
 
 -- ---- none, and one after the other

@@ -28,7 +28,7 @@ use Rattle.rules.proofs.Memories.{defaults-legal}
 use Rattle.store.specs.Rows.{ramAt, eepromAt, validAt, timerAt, markAt, startAt, countAt, locksAt, field, fields}
 use Rattle.store.specs.View.{deskOf, deskIn}
 use Rattle.store.proofs.Fields.{field-length}
-use Rattle.rows.specs.Fields.{ramField, eepromField, validField, loginField, timerField, markField, dueField, startField, countField, locksField}
+use Rattle.store.specs.Rows.{ramField, eepromField, validField, loginField, timerField, markField, dueField, startField, countField, locksField}
 use Rattle.rows.specs.Change.{Fit, Change, onTable, closedTable, heldTable}
 use Rattle.rows.specs.Row.{one, loginRow, markedRow, dueRow, closedRow, timerRow, midnightRow, writtenRow, savedRow, allSavedRow, unlockedRow, locksOf, locksRow, lockedRow, sweptRow, steppedRow, tickedRow, loadedRow, validRow, restartedRow, defaultRow, clearedRow, systemRow}
 use Rattle.rows.proofs.Changes.{change-then, change-as, Changes, in-turn, into-change, over-change}

@@ -1,3 +1,3 @@
-pub mod Fields
 pub mod Row
 pub mod Change
+pub mod Deed

@@ -17,6 +17,8 @@ ghost use lib.ListN.{length, getD};
 ghost use Rattle.locks.specs.Locks.{mostLocks};
 ghost use Rattle.store.specs.Layout.{rowWidth};
 ghost use Rattle.store.specs.Rows.{countAt};
+ghost use Rattle.rows.specs.Change.{Fit, Change};
+ghost use Rattle.rows.specs.Deed.{doneBy};
 ghost use Rattle.rows.specs.Row.{restartedRow, midnightRow, unlockedRow, closedRow, markedRow, dueRow, loginRow, timerRow, memoryAt, writtenRow, savedRow, allSavedRow, lockedRow, sweptRow, steppedRow, tickedRow, defaultRow, clearedRow, systemRow};
 ghost use Rattle.rules.specs.Config.{blockSize, blockCount, memorySize, blockAt, defaults};
 
@@ -206,4 +208,37 @@ pub fn restart_all(row: &mut [u8])
     restart(row);
     close_table(row, 0);
     midnight(row);
+}
+
+// What is done to a row by sightings, by ticks and by the commands that concern records too.
+pub enum Deed {
+    // The overflow mark is set.
+    Mark,
+    // So many records are due to be removed.
+    Due(u8),
+    // The mark falls, nothing is due, TAB-START is this.
+    Close(u8),
+    // 0x33, but for the records.
+    Clear,
+    // 0x64, but for the records.
+    Restart,
+    // A UID is locked for VALID-TIME ticks.
+    Lock(u64),
+    Tick,
+}
+
+// Does it to the row of a desk.
+pub fn act(row: &mut [u8], deed: Deed)
+    requires { ⌜ Fit (now row) × (getD (now row) countAt 0 ≤ mostLocks) ⌝ }
+    ensures { λ _. ⌜ Change (doneBy deed) (now (row .entry)) (now (row .exit)) ⌝ }
+{
+    match deed {
+        Deed::Mark => set_mark(row),
+        Deed::Due(n) => set_due(row, n),
+        Deed::Close(start) => close_table(row, start),
+        Deed::Clear => clear(row),
+        Deed::Restart => restart_all(row),
+        Deed::Lock(uid) => add_lock(row, uid),
+        Deed::Tick => tick(row),
+    }
 }
