@@ -1,0 +1,59 @@
+// The commands that concern a desk's row alone: their own tests, and what they do. No store is known here.
+use frame::Kind;
+use rules::RowCommand;
+ghost use mathlib.Core.Path.{_≡_};
+ghost use mathlib.Core.Bool.{true};
+ghost use Prim.Native.Nat.{_≤_};
+ghost use lib.ListN.{length};
+ghost use Rattle.frame.specs.Shape.{replyRoom};
+ghost use Rattle.rules.specs.declared.Command.{Command};
+ghost use Rattle.rules.specs.Control.{sizedFor};
+ghost use Rattle.rows.specs.Change.{Fit};
+ghost use Rattle.commands.specs.Obeyed.{Allowed, does, ruled, Obeyed};
+
+pub mod blocks;
+pub mod clock;
+pub mod tests;
+
+// A reply's status, and how many octets of data stand at their place in the output.
+pub struct Reply {
+    pub status: u8,
+    pub len: usize,
+}
+
+// A reply without data.
+pub fn plain(status: u8) -> Reply
+    ensures { λ r. ⌜ r ≡ record { status = status; len = 0 } ⌝ }
+{
+    Reply { status, len: 0 }
+}
+
+// What a command does with data that it takes.
+fn act(row: &mut [u8], kind: Kind, command: RowCommand, body: &[u8], out: &mut [u8]) -> Reply
+    requires { ⌜ Fit (now row) × Allowed command (now body) × (replyRoom ≤ length (now out)) ⌝ }
+    ensures { λ r. ⌜ Obeyed kind (does command (now (body .entry))) r (now (row .entry)) (now (row .exit)) (now (out .entry)) (now (out .exit)) ⌝ }
+{
+    match command {
+        RowCommand::Baud => plain(0),
+        RowCommand::Reset => clock::reset(row),
+        RowCommand::ReadBlock => blocks::read(row, kind, body, out),
+        RowCommand::WriteBlock => blocks::write(row, body),
+        RowCommand::SaveBlocks => blocks::save(row, body),
+        RowCommand::RestoreBlocks => blocks::restore(row, body),
+        RowCommand::SetTimer => clock::set_timer(row, body),
+        RowCommand::SendTimer => clock::send_timer(row, kind, out),
+        RowCommand::Login => clock::login(row, body),
+    }
+}
+
+// A command whose data have the listed length, at a desk that may do it: its own tests, and then what it does.
+pub fn obey(row: &mut [u8], kind: Kind, command: RowCommand, body: &[u8], out: &mut [u8]) -> Reply
+    requires { ⌜ Fit (now row) × (sizedFor (Command.OnRow command) (now body) ≡ true) × (replyRoom ≤ length (now out)) ⌝ }
+    ensures { λ r. ⌜ Obeyed kind (ruled command (now (body .entry))) r (now (row .entry)) (now (row .exit)) (now (out .entry)) (now (out .exit)) ⌝ }
+{
+    let status = tests::own_tests(command, body);
+    if status != 0 {
+        return plain(status);
+    }
+    act(row, kind, command, body, out)
+}

@@ -1,0 +1,92 @@
+// A command's own tests: the status of the first that is given, or 0. They read the data alone.
+use rules::RowCommand;
+use rules::adr::block_of;
+use rules::adr::in_eeprom;
+use rules::adr::names_one;
+use rules::adr::names_some;
+ghost use mathlib.Core.Path.{_≡_};
+ghost use mathlib.Core.Bool.{true, cond, not, _&&_};
+ghost use Prim.Native.Nat.{_+_, _≤_};
+ghost use lib.ListN.{length, drop};
+ghost use lib.Dec.{eqb};
+ghost use Rattle.octets.specs.Tests.{first};
+ghost use Rattle.rules.specs.declared.Command.{Command};
+ghost use Rattle.rules.specs.declared.RowCommand.{RowCommand};
+ghost use Rattle.rules.specs.Config.{blockSize, lineLegal};
+ghost use Rattle.rules.specs.Control.{sizedFor};
+ghost use Rattle.rules.specs.Command.{rowTests};
+ghost use Rattle.commands.specs.Obeyed.{said};
+
+// 0x11 where the data are wrong.
+fn given(wrong: bool) -> u8
+    ensures { λ r. ⌜ r ≡ cond wrong 0x11 0 ⌝ }
+{
+    if wrong { 0x11 } else { 0 }
+}
+
+// 0x80: one block is named, and it is not block 0.
+fn of_read(body: &[u8]) -> u8
+    requires { ⌜ length (now body) ≡ 1 ⌝ }
+    ensures { λ r. ⌜ first (rowTests RowCommand.ReadBlock (now (body .entry))) ≡ said r ⌝ }
+{
+    let adr = body[0];
+    if !names_one(adr) {
+        return 0x11;
+    }
+    if block_of(adr) == 0 {
+        return 0x15;
+    }
+    0
+}
+
+// Whether block k may not take the bytes behind CFG-ADR.
+fn unfit(k: usize, body: &[u8]) -> bool
+    requires { ⌜ length (now body) ≡ 1 + blockSize ⌝ }
+    ensures { λ r. ⌜ r ≡ (eqb k 7 && not (lineLegal (drop 1 (now (body .entry))))) ⌝ }
+{
+    if k != 7 {
+        return false;
+    }
+    !rules::shape_legal(body[1], body[2], body[4], body[14])
+}
+
+// 0x81: one block is named, and the bytes are fit for it.
+fn of_write(body: &[u8]) -> u8
+    requires { ⌜ length (now body) ≡ 1 + blockSize ⌝ }
+    ensures { λ r. ⌜ first (rowTests RowCommand.WriteBlock (now (body .entry))) ≡ said r ⌝ }
+{
+    let adr = body[0];
+    if !names_one(adr) {
+        return 0x11;
+    }
+    given(unfit(block_of(adr), body))
+}
+
+// 0x82: RAM, and a block or all are named.
+fn of_save(body: &[u8]) -> u8
+    requires { ⌜ length (now body) ≡ 1 ⌝ }
+    ensures { λ r. ⌜ first (rowTests RowCommand.SaveBlocks (now (body .entry))) ≡ said r ⌝ }
+{
+    let adr = body[0];
+    if in_eeprom(adr) {
+        return 0x11;
+    }
+    given(!names_some(adr))
+}
+
+pub fn own_tests(command: RowCommand, body: &[u8]) -> u8
+    requires { ⌜ sizedFor (Command.OnRow command) (now body) ≡ true ⌝ }
+    ensures { λ r. ⌜ first (rowTests command (now (body .entry))) ≡ said r ⌝ }
+{
+    match command {
+        RowCommand::Baud => given(body[0] != 0),
+        RowCommand::Reset => 0,
+        RowCommand::ReadBlock => of_read(body),
+        RowCommand::WriteBlock => of_write(body),
+        RowCommand::SaveBlocks => of_save(body),
+        RowCommand::RestoreBlocks => given(!names_some(body[0])),
+        RowCommand::SetTimer => given(!timer::legal(timer::read(body, 0))),
+        RowCommand::SendTimer => 0,
+        RowCommand::Login => 0,
+    }
+}
