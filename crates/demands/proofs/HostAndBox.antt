@@ -41,7 +41,7 @@ use Rattle.demands.specs.Exchange.{Carriable, ruledBy, replyTo, taken, R
 
 module _ (q : Request) (c : Carriable q) (s : List ℕ) (still : sound s ≡ true) (octets : Octets s) where
   legal : DeskLegal (deskAt (view s) (q .desk))
-  legal = desk-of-view s (q .desk) still octets
+  legal = desk-of-view s (q .desk) still
 
   -- every answer of a sound store is a possible one
   pub only-possible : possible q (ruledBy q s .status) (length (ruledBy q s .sent)) ≡ true

@@ -1,29 +1,35 @@
 -- A desk's row anew, or the entries anew: the store stays sound, and the view changes at that desk alone. Assumes nothing.
-use Prim.Native.Nat.{ℕ, _+_, _*_, _≤_, _<_}
+use Prim.Native.Nat.{ℕ, zero, suc, _+_, _*_, _≤_, _<_}
 use mathlib.Core.Path.{_≡_, sym, ap, _∙_}
-use mathlib.Core.List.{List, []}
+use mathlib.Core.List.{List, [], _∷_}
 use mathlib.Core.Bool.{true}
 use native.Mathlib.Nat.{add-zero, zero-add}
-use native.Mathlib.Decide.{ℕ-discrete}
 use native.Mathlib.Omega.{arith}
-use lib.ListN.{length, getD, set}
-use lib.Seq.{getD-set-same, getD-set-other}
+use lib.ListN.{length, getD, set, length-set}
 use lib.Dec.{lit<}
 use Rattle.octets.specs.Parts.{part, put, rows}
 use Rattle.octets.specs.Numbers.{octets}
 use Rattle.octets.specs.Areas.{upto, change}
+use Rattle.octets.specs.Each.{All}
+use Rattle.octets.proofs.Each.{all-set}
 use Rattle.octets.proofs.Puts.{put-length, put-whole, part-length, part-put-same}
 use Rattle.octets.proofs.Rows.{rows-length, rows-put, rows-at}
-use Rattle.table.specs.Entries.{desks, entryCount, entries, recordsOf}
-use Rattle.rules.specs.Desk.{freshDesk}
-use Rattle.rules.specs.Box.{deskAt}
+use Rattle.table.specs.Entries.{desks, entryCount, entries, recordsOf, ownersBelow}
+use Rattle.rules.specs.Desk.{Desk, freshDesk}
+use Rattle.rules.specs.Box.{Box, deskAt}
+use Rattle.rules.proofs.Facts.{DeskLegal, BoxLegal}
 use Rattle.store.specs.Layout.{recounted, storeSize, rowWidth, sizeOf, header, startOf, usedOf, area, areas, rowAt, rowOf, headerArea, rowsArea, entriesArea, usedAt}
 use Rattle.store.specs.View.{deskIn, rowsIn, entriesIn, inUse, viewOf, view}
-use Rattle.store.specs.Sound.{rowSound, tableSound, deskSound}
 use Rattle.store.proofs.LentAreas.{row-in}
 use Rattle.store.proofs.Places.{used-counted, counted-fine}
 use Rattle.store.proofs.Boxes.{box-at, box-row, box-records}
-use Rattle.store.proofs.Changes.{Sound, area-length, into-area, header-kept, header-counted, header-length, into-count}
+use Rattle.store.proofs.Changes.{Flagged, Sound, area-length, into-area, header-kept, header-counted, header-length, into-count}
+
+-- a rule of each element, at one of them
+all-at : {A : Type 0} (P : A → Type 0) (xs : List A) (i : ℕ) (x : A) → All P xs → i < length xs → P (getD xs i x)
+all-at P [] i x p l = absurd (omega arith)
+all-at P (y ∷ ys) zero x p l = p .0
+all-at P (y ∷ ys) (suc i) x p l = all-at P ys i x (p .1) (omega arith)
 
 -- ---- the row of a desk
 
@@ -37,8 +43,8 @@ module _ (s : List ℕ) (f : Sound s) (d : ℕ) (h : d < desks) where
   pub row-length : length (rowOf d s) ≡ rowWidth
   row-length = part-length (rowAt d s) rowWidth s row-inside
 
-  pub row-sound : rowSound (length (recordsOf d (inUse s))) (rowOf d s) ≡ true
-  row-sound = ap (rowSound (length (recordsOf d (inUse s)))) (sym row-is) ∙ f .each d h
+  pub row-flags : Flagged (rowOf d s)
+  row-flags = rw (← row-is) (all-at Flagged (rowsIn (areas s)) d [] (f .flags) (omega (arith, rows-length desks rowWidth (getD (areas s) rowsArea []))))
 
   -- what the store says of the desk
   pub desk-is : deskAt (view s) d ≡ deskIn (rowOf d s) (recordsOf d (inUse s))
@@ -46,6 +52,10 @@ module _ (s : List ℕ) (f : Sound s) (d : ℕ) (h : d < desks) where
   desk-is =
       box-at 0 (rowsIn (areas s)) (inUse s) d freshDesk (omega (arith, rows-length desks rowWidth (getD (areas s) rowsArea [])))
       ∙ ap (λ (r : List ℕ). deskIn r (recordsOf (0 + d) (inUse s))) row-is ∙ rw zero-add
+
+-- a legal box stays legal where a legal desk is put in
+set-legal : (box : Box) (d : ℕ) (desk : Desk) → BoxLegal box → DeskLegal desk → BoxLegal (set box d desk)
+set-legal box d desk p q = record { size = simp length-set (p .size); each = all-set DeskLegal box d desk (p .each) q }
 
 pub record Left (d : ℕ) (row : List ℕ) (rs : List (List ℕ)) (s s′ : List ℕ) : Type 0 where
   pub still : Sound s′
@@ -72,26 +82,21 @@ module _ (s : List ℕ) (f : Sound s) (d : ℕ) (h : d < desks) (row : List ℕ)
       let kept : header (put (rowAt d s) row s) ≡ header s = header-kept s (f .head) rowsArea (rowWidth * d) row (lit< tt) (omega arith) (lit< tt) in
       rw kept (ap (λ (n : ℕ). part (rowAt d s) n (put (rowAt d s) row s)) (sym l) ∙ part-put-same (rowAt d s) row s (omega (arith, row-inside s f d h)))
 
-  pub row-anew : rowSound (length (recordsOf d (inUse s))) row ≡ true → Left d row (recordsOf d (inUse s)) s (put (rowAt d s) row s)
+  pub row-anew : Flagged row → DeskLegal (deskIn row (recordsOf d (inUse s))) → Left d row (recordsOf d (inUse s)) s (put (rowAt d s) row s)
   unfolding view viewOf
-  row-anew e =
+  row-anew flags legal =
+      let says : view (put (rowAt d s) row s) ≡ set (view s) d (deskIn row (recordsOf d (inUse s))) = rw (rows-now, entries-kept) (box-row 0 (rowsIn (areas s)) (inUse s) d row ∙ rw zero-add) in
       record {
         still =
             record {
               size = put-length (rowAt d s) row s ∙ f .size;
               head = rw (header-kept s (f .head) rowsArea (rowWidth * d) row (lit< tt) (omega arith) (lit< tt)) (f .head);
-              table = rw entries-kept (f .table);
-              each = λ c b. rw (rows-now, entries-kept) (sound-at c b (ℕ-discrete c d));
+              owners = rw entries-kept (f .owners);
+              flags = rw rows-now (all-set Flagged (rowsIn (areas s)) d row (f .flags) flags);
+              box = rw says (set-legal (view s) d _ (f .box) legal);
             };
-        now-view = rw (rows-now, entries-kept) (box-row 0 (rowsIn (areas s)) (inUse s) d row ∙ rw zero-add);
+        now-view = says;
       }
-    where
-      size : length (rowsIn (areas s)) ≡ desks
-      size = rows-length desks rowWidth (getD (areas s) rowsArea [])
-
-      sound-at : (c : ℕ) → c < desks → Dec (c ≡ d) → deskSound (set (rowsIn (areas s)) d row) (inUse s) c ≡ true
-      sound-at c b (yes q) = rw (q, getD-set-same (rowsIn (areas s)) d row [] (omega (arith, size))) e
-      sound-at c b (no n) = rw (getD-set-other (rowsIn (areas s)) d c row [] n) (f .each c b)
 
 -- ---- the entries anew, with their count
 
@@ -123,25 +128,23 @@ module _ (s : List ℕ) (f : Sound s) (d : ℕ) (h : d < desks) (t : List ℕ) (
   unfolding areas upto
   rows-kept = ap rowsIn areas-now
 
-  pub entries-anew : tableSound (entries n t) ≡ true → ((c : ℕ) → c < desks → (c ≡ d → ⊥) → recordsOf c (entries n t) ≡ recordsOf c (inUse s))
-      → rowSound (length (recordsOf d (entries n t))) (rowOf d s) ≡ true
+  pub entries-anew : ownersBelow desks (entries n t) ≡ true → ((c : ℕ) → c < desks → (c ≡ d → ⊥) → recordsOf c (entries n t) ≡ recordsOf c (inUse s))
+      → DeskLegal (deskIn (rowOf d s) (recordsOf d (entries n t)))
       → Left d (rowOf d s) (recordsOf d (entries n t)) s (recounted n refilled)
   unfolding view viewOf
-  entries-anew ok others e =
+  entries-anew ok others legal =
+      let count : length (rowsIn (areas s)) ≡ desks = rows-length desks rowWidth (getD (areas s) rowsArea []) in
+      let says : view (recounted n refilled) ≡ set (view s) d (deskIn (rowOf d s) (recordsOf d (entries n t))) =
+      rw (rows-kept, entries-now) (box-records 0 (rowsIn (areas s)) (inUse s) (entries n t) d (omega arith) (λ c b ne. others c (omega arith) (λ q. ne (omega arith))) ∙ rw (zero-add, row-is s f d h))
+      in
       record {
         still =
             record {
               size = put-length usedAt (octets 2 n) refilled ∙ size-kept;
               head = rw (header-counted refilled size-kept n few, head-kept) (counted-fine n (header s) (f .head) few (header-length s (f .size) n few));
-              table = rw entries-now ok;
-              each = λ c b. rw (rows-kept, entries-now) (sound-at c b (ℕ-discrete c d));
+              owners = rw entries-now ok;
+              flags = rw rows-kept (f .flags);
+              box = rw says (set-legal (view s) d _ (f .box) legal);
             };
-        now-view = rw (rows-kept, entries-now) (box-records 0 (rowsIn (areas s)) (inUse s) (entries n t) d (omega (arith, size)) (λ c b ne. others c (omega (arith, size)) (λ q. ne (omega arith))) ∙ rw (zero-add, row-is s f d h));
+        now-view = says;
       }
-    where
-      size : length (rowsIn (areas s)) ≡ desks
-      size = rows-length desks rowWidth (getD (areas s) rowsArea [])
-
-      sound-at : (c : ℕ) → c < desks → Dec (c ≡ d) → deskSound (rowsIn (areas s)) (entries n t) c ≡ true
-      sound-at c b (yes q) = rw (q, row-is s f d h) e
-      sound-at c b (no ne) = rw (others c b ne) (f .each c b)

@@ -10,11 +10,6 @@ use Rattle.rules.specs.Desk.{Desk}
 use Rattle.rules.specs.Box.{Box}
 use Rattle.store.specs.View.{deskIn, boxFrom}
 
-pub box-length : (k : ℕ) (rs es : List (List ℕ)) → length (boxFrom k rs es) ≡ length rs
-unfolding boxFrom
-box-length k [] es = refl
-box-length k (r ∷ rs) es = ap suc (box-length (suc k) rs es)
-
 pub box-at : (k : ℕ) (rs es : List (List ℕ)) (d : ℕ) (x : Desk) → d < length rs → getD (boxFrom k rs es) d x ≡ deskIn (getD rs d []) (recordsOf (k + d) es)
 unfolding boxFrom
 box-at k [] es d x h = absurd (omega arith)

@@ -1,4 +1,4 @@
--- The row of a desk: its ten fields one after the other. It is as long as a row, is made of octets, says the desk, and is sound where the desk is legal.
+-- The row of a desk: its ten fields one after the other. It is as long as a row, is made of octets, says the desk, and has login and mark 0 or 1.
 -- Assumes nothing.
 use Prim.Native.Nat.{ℕ, _+_, _≤_, _<_}
 use mathlib.Core.Path.{_≡_, refl, sym, ap, ap₂, _∙_}
@@ -26,9 +26,8 @@ use Rattle.rules.proofs.Facts.{DeskLegal}
 use Rattle.store.specs.Layout.{rowWidth}
 use Rattle.store.specs.Rows.{total, fieldSizes, fieldSize, locksField, field, fields, loginField, markField, fieldCount}
 use Rattle.store.specs.View.{deskOf, deskIn}
-use Rattle.store.specs.Sound.{rowSound}
 use Rattle.store.proofs.Fields.{field-at}
-use Rattle.store.proofs.LegalView.{legal-row}
+use Rattle.store.proofs.Changes.{Flagged}
 
 -- ---- lists put together, cut by their lengths
 
@@ -160,7 +159,7 @@ module _ (d : Desk) (p : DeskLegal d) where
   flag-at k l b e =
       rw (sym (field-at (rowFor d) k l) ∙ ap (λ (fs : List (List ℕ)). getD fs k []) row-fields ∙ e, flag-number b) (flag-small b)
 
-  pub row-sound : rowSound (length (d .table .held)) (rowFor d) ≡ true
+  pub row-flags : Flagged (rowFor d)
   unfolding fieldsOf
-  row-sound =
-      legal-row (rowFor d) (d .table .held) (rw row-says p) (flag-at loginField (lit< tt) (d .loggedIn) refl) (flag-at markField (lit< tt) (d .table .overflow) refl)
+  row-flags =
+      record { login = flag-at loginField (lit< tt) (d .loggedIn) refl; mark = flag-at markField (lit< tt) (d .table .overflow) refl }

@@ -14,9 +14,8 @@ use Rattle.octets.proofs.Tests.{and-both}
 use Rattle.octets.specs.Each.{All, Octet}
 use Rattle.octets.proofs.Each.{all-append, all-getD, all-replicate}
 use Rattle.octets.proofs.Rows.{Wide}
-use Rattle.table.specs.Entries.{width, desks, share, entryCount, owner, recordsOf, ownersBelow, sharesKept}
+use Rattle.table.specs.Entries.{width, desks, share, entryCount, owner, recordsOf, ownersBelow}
 use Rattle.table.proofs.Desks.{recordsOf-own, recordsOf-other, recordsOf-append}
-use Rattle.table.proofs.Shares.{sharesKept-all}
 use Rattle.rules.specs.Desk.{freshDesk}
 use Rattle.rules.specs.Box.{Box, deskAt}
 use Rattle.rules.specs.Legal.{boxLegal}
@@ -24,10 +23,12 @@ use Rattle.rules.proofs.Facts.{RecordLegal, DeskLegal, BoxLegal, box-facts}
 use Rattle.rules.proofs.Legality.{fresh-desk-legal}
 use Rattle.store.specs.Layout.{storeSize, rowWidth}
 use Rattle.store.specs.View.{boxFrom, view}
-use Rattle.store.specs.Sound.{tableSound, deskSound, sound}
-use Rattle.store.proofs.Boxes.{box-length, box-at}
+use Rattle.store.specs.Sound.{sound}
+use Rattle.store.proofs.Changes.{Flagged}
+use Rattle.store.proofs.Boxes.{box-at}
+use Rattle.store.proofs.Contents.{box-length}
 use Rattle.store.proofs.Laid.{laid, laid-octets, laid-sound, laid-says, zeros, zeros-size}
-use Rattle.store.proofs.DeskRows.{octets-joined, rowFor, row-length, row-octets, row-says, row-sound}
+use Rattle.store.proofs.DeskRows.{octets-joined, rowFor, row-length, row-octets, row-says, row-flags}
 
 -- ---- the entries of desk k, and of the desks of a box, counted from k
 
@@ -120,6 +121,11 @@ unfolding rowsFor
 rows-octets [] p = tt
 rows-octets (d ∷ box) p = (row-octets d (p .0), rows-octets box (p .1))
 
+rows-flags : (box : Box) → All DeskLegal box → All Flagged (rowsFor box)
+unfolding rowsFor
+rows-flags [] p = tt
+rows-flags (d ∷ box) p = (row-flags d (p .0), rows-flags box (p .1))
+
 row-at : (box : Box) (i : ℕ) → i < length box → getD (rowsFor box) i [] ≡ rowFor (deskAt box i)
 unfolding rowsFor deskAt
 row-at [] i l = absurd (omega arith)
@@ -153,13 +159,6 @@ module _ (box : Box) (p : BoxLegal box) where
   its-right : All EntryRight its
   its-right = all-right 0 box (omega (arith, p .size)) (p .each)
 
-  table-sound : tableSound its ≡ true
-  unfolding tableSound
-  table-sound = and-both (ownersBelow desks its) (sharesKept its) (right-owners its its-right) (sharesKept-all its (λ c l. rw (its-records c l) (legal-at c .table .few)))
-
-  desk-sound : (i : ℕ) → i < desks → deskSound (rowsFor box) its i ≡ true
-  desk-sound i l = rw (its-records i l, row-at box i (omega (arith, p .size))) (row-sound (deskAt box i) (legal-at i))
-
   count : length (rowsFor box) ≡ desks
   unfolding rowsFor
   count = length-map box rowFor ∙ p .size
@@ -186,7 +185,7 @@ module _ (box : Box) (p : BoxLegal box) where
         octets =
             laid-octets (rowsFor box) its zeros (octets-joined (rowsFor box) (rows-octets box (p .each)))
             (octets-joined its (right-octets its its-right)) zeros-octets;
-        still = laid-sound (rowsFor box) its zeros zeros-size count long wide few table-sound desk-sound;
+        still = laid-sound (rowsFor box) its zeros zeros-size count long wide few (right-owners its its-right) (rows-flags box (p .each)) (rw says-box p);
         says = laid-says (rowsFor box) its zeros zeros-size count long wide few ∙ says-box;
       }
 

@@ -16,14 +16,15 @@ use Rattle.octets.specs.Each.{All, Octet}
 use Rattle.octets.proofs.Each.{octets-put, octets-number, all-append}
 use Rattle.octets.proofs.Puts.{put-length, part-length, part-put-away, part-put-in, part-put-same}
 use Rattle.octets.proofs.Rows.{Wide, length-joined, rows-joined}
-use Rattle.table.specs.Entries.{width, desks, entryCount, entries}
+use Rattle.table.specs.Entries.{width, desks, entryCount, entries, ownersBelow}
+use Rattle.rules.proofs.Facts.{BoxLegal}
 use Rattle.rules.proofs.Computed.{computed}
 use Rattle.store.specs.Layout.{storeSize, rowWidth, sizeOf, header, startOf, usedOf, area, areas, rowsArea, entriesArea, areaCount, headerSize, usedAt}
 use Rattle.store.specs.View.{boxFrom, rowsIn, entriesIn, viewOf, view}
-use Rattle.store.specs.Sound.{fine, tableSound, deskSound, sound}
+use Rattle.store.specs.Sound.{fine, sound}
 use Rattle.store.specs.Fresh.{rowsBegin, entriesBegin, freshHeader}
 use Rattle.store.proofs.Places.{Fine, fine-facts, start-counted, used-counted, counted-fine}
-use Rattle.store.proofs.Changes.{sound-test}
+use Rattle.store.proofs.Changes.{Flagged, sound-test}
 use Rattle.store.proofs.FreshRows.{fresh-length}
 
 -- ---- the header, with n entries in use
@@ -133,14 +134,14 @@ module _
         ∙ ap (λ (at : ℕ). entries (length es) (part at (sizeOf entriesArea) (laid rs es b))) (start-is entriesArea entriesBegin (lit< tt) entries-start)
         ∙ rows-put-in entriesBegin (sizeOf entriesArea) width es rowed wide (omega arith) (omega (arith, rowed-size))
 
-    pub laid-sound : tableSound es ≡ true → ((d : ℕ) → d < desks → deskSound rs es d ≡ true) → sound (laid rs es b) ≡ true
-    laid-sound table each =
-        sound-test (laid rs es b)
-        record { size = laid-size; head = laid-fine; table = rw laid-entries table; each = λ d l. rw (laid-rows, laid-entries) (each d l) }
-
     pub laid-says : view (laid rs es b) ≡ boxFrom 0 rs es
     unfolding view viewOf
     laid-says = ap₂ (boxFrom 0) laid-rows laid-entries
+
+    pub laid-sound : ownersBelow desks es ≡ true → All Flagged rs → BoxLegal (boxFrom 0 rs es) → sound (laid rs es b) ≡ true
+    laid-sound owners flags legal =
+        sound-test (laid rs es b)
+        record { size = laid-size; head = laid-fine; owners = rw laid-entries owners; flags = rw laid-rows flags; box = rw laid-says legal }
 
 -- ---- what it is laid out in
 

@@ -12,4 +12,6 @@ pub mod FreshBox
 pub mod DeskRows
 pub mod EveryBox
 pub mod FieldOctets
+pub mod RowTests
+pub mod Contents
 pub mod LentAreas
