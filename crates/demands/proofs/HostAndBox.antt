@@ -24,8 +24,8 @@ use Rattle.rules.proofs.Legality.{fresh-facts}
 use Rattle.rules.proofs.Output.{wrote-octets}
 use Rattle.store.specs.Sound.{sound}
 use Rattle.store.specs.View.{view}
-use Rattle.store.proofs.LegalView.{desk-of-view}
-use Rattle.store.proofs.EveryBox.{Said, every-box}
+use Rattle.views.proofs.LegalView.{desk-of-view}
+use Rattle.views.proofs.EveryBox.{Said, every-box}
 use Rattle.depot.specs.declared.Answer.{Answer}
 use Rattle.depot.specs.Called.{Called, Ended, stepOn}
 use Rattle.depot.proofs.Short.{answer-brief}

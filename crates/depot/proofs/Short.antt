@@ -22,7 +22,7 @@ use Rattle.rules.proofs.Facts.{DeskLegal}
 use Rattle.rules.proofs.Replies.{obey-carried}
 use Rattle.store.specs.Sound.{sound}
 use Rattle.store.specs.View.{view}
-use Rattle.store.proofs.LegalView.{desk-of-view}
+use Rattle.views.proofs.LegalView.{desk-of-view}
 use Rattle.depot.specs.declared.Answer.{Answer}
 use Rattle.depot.specs.declared.Answer.the-variants.{Refused, Reply, Sighted, Done}
 use Rattle.depot.specs.Called.{Called, Ended, stepOn}

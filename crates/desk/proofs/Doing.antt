@@ -15,8 +15,8 @@ use Rattle.store.specs.Layout.{rowWidth, sizeOf, header, startOf, rowAt, rowOf,
 use Rattle.store.specs.View.{deskIn, inUse, view}
 use Rattle.store.specs.Sound.{sound}
 use Rattle.store.proofs.Changes.{Flagged, Sound, sound-facts, sound-test}
-use Rattle.store.proofs.Anew.{row-length, row-flags as flagged, desk-is, Left, row-anew, entries-anew}
-use Rattle.store.proofs.LegalView.{legal-at}
+use Rattle.views.proofs.Anew.{row-length, row-flags as flagged, desk-is, Left, row-anew, entries-anew}
+use Rattle.views.proofs.LegalView.{legal-at}
 use Rattle.rows.proofs.Flagged.{Flags}
 use Rattle.desk.specs.Obeyed.{kept, Says}
 

@@ -12,8 +12,8 @@ use Rattle.table.specs.Entries.{desks}
 use Rattle.store.specs.Layout.{storeSize, rowWidth, rowAt, rowOf}
 use Rattle.store.specs.Sound.{sound}
 use Rattle.store.proofs.Changes.{sound-facts}
-use Rattle.store.proofs.LegalView.{few-locks as few}
-use Rattle.store.proofs.Anew.{row-inside as inside}
+use Rattle.views.proofs.LegalView.{few-locks as few}
+use Rattle.views.proofs.Anew.{row-inside as inside}
 use Rattle.octets.proofs.Numbers.{number-at}
 use Rattle.store.specs.Rows.{field, countAt}
 

@@ -20,7 +20,7 @@ use Rattle.store.specs.Layout.{storeSize, header, startOf, usedOf, area}
 use Rattle.store.specs.View.{inUse}
 use Rattle.store.specs.Sound.{sound}
 use Rattle.store.proofs.Changes.{Sound, sound-facts, area-length}
-use Rattle.store.proofs.LegalView.{few-records}
+use Rattle.views.proofs.LegalView.{few-records}
 use Rattle.store.proofs.LentAreas.{areas-at, areas-header, entries-lent}
 use Rattle.desk.specs.Removal.{removedFrom}
 

@@ -25,7 +25,7 @@ use Rattle.store.specs.View.{deskOf, deskIn, inUse}
 use Rattle.store.specs.Sound.{sound}
 use Rattle.store.proofs.LentAreas.{areas-at, areas-header}
 use Rattle.store.proofs.Places.{start-counted}
-use Rattle.store.proofs.LegalView.{shares-kept}
+use Rattle.views.proofs.LegalView.{shares-kept}
 use Rattle.store.proofs.Changes.{Sound, sound-facts, area-length, header-kept, header-counted}
 use Rattle.sightings.specs.Sighted.{recordedIn}
 use Rattle.desk.specs.Obeyed.{kept, Says}

@@ -5,7 +5,6 @@ ghost use lib.ListN.{length};
 ghost use Rattle.table.specs.Entries.{desks};
 ghost use Rattle.store.specs.Layout.{storeSize, areaCount, headerSize, sizeOf, header, startOf, usedOf, rowAt};
 
-pub mod fresh;
 pub mod sound;
 
 // The store's octets.
@@ -56,7 +55,7 @@ const AREAS: usize = 3;
 const SIZES: [usize; AREAS] = [HEADER, ROW * table::DESKS, TABLE];
 
 // In the header: the count of entries in use, behind an offset of two octets for each other area; and the header's octets.
-const USED: usize = (AREAS - 1) * 2;
+pub const USED: usize = (AREAS - 1) * 2;
 
 pub const HEADER: usize = USED + 2;
 
