@@ -16,7 +16,7 @@ use Rattle.rules.specs.Events.{history}
 use Rattle.rules.specs.Cases.{cases}
 use Rattle.rules.proofs.Cases.{cases-hold}
 use Rattle.store.specs.Layout.{storeSize}
-use Rattle.store.specs.Fresh.{freshStore}
+use Rattle.fresh.specs.Fresh.{freshStore}
 use Rattle.store.specs.View.{view}
 use Rattle.store.specs.Sound.{sound}
 use Rattle.depot.specs.declared.Answer.{Answer}

@@ -24,8 +24,8 @@ use Rattle.rules.proofs.Legality.{fresh-facts}
 use Rattle.rules.proofs.Output.{wrote-octets}
 use Rattle.store.specs.Sound.{sound}
 use Rattle.store.specs.View.{view}
-use Rattle.store.proofs.LegalView.{desk-of-view}
-use Rattle.store.proofs.EveryBox.{Said, every-box}
+use Rattle.views.proofs.LegalView.{desk-of-view}
+use Rattle.views.proofs.EveryBox.{Said, every-box}
 use Rattle.depot.specs.declared.Answer.{Answer}
 use Rattle.depot.specs.Called.{Called, Ended, stepOn}
 use Rattle.depot.proofs.Short.{answer-brief}
@@ -41,7 +41,7 @@ use Rattle.demands.specs.Exchange.{Carriable, ruledBy, replyTo, taken, R
 
 module _ (q : Request) (c : Carriable q) (s : List ℕ) (still : sound s ≡ true) (octets : Octets s) where
   legal : DeskLegal (deskAt (view s) (q .desk))
-  legal = desk-of-view s (q .desk) still octets
+  legal = desk-of-view s (q .desk) still
 
   -- every answer of a sound store is a possible one
   pub only-possible : possible q (ruledBy q s .status) (length (ruledBy q s .sent)) ≡ true

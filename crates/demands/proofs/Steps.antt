@@ -13,10 +13,10 @@ use Rattle.frame.specs.declared.Refusal.{Refusal}
 use Rattle.frame.specs.declared.Refusal.the-variants.{Unsound}
 use Rattle.rules.specs.Box.{Box, freshBox, deskAt, Event, frame, sighting, tick, Answer as RuleAnswer, refused, reply, seen, ok, AtDesk, Step, request, served, sighted, placed, unlessRefused, frameRefusals, sightingRefusals, step, run, after}
 use Rattle.store.specs.Layout.{storeSize}
-use Rattle.store.specs.Fresh.{freshStore}
+use Rattle.fresh.specs.Fresh.{freshStore}
 use Rattle.store.specs.View.{view}
 use Rattle.store.specs.Sound.{sound}
-use Rattle.store.proofs.FreshBox.{fresh-sound, fresh-view}
+use Rattle.views.proofs.FreshBox.{fresh-sound, fresh-view}
 use Rattle.depot.specs.declared.Answer.the-variants.{Refused, Done}
 use Rattle.depot.specs.Called.{stepOn, Ended, Called, Made}
 use Rattle.demands.specs.History.{eventOf, lentTo, Deed, eventsOf, Ran, History}

@@ -22,7 +22,7 @@ use Rattle.rules.proofs.Facts.{DeskLegal}
 use Rattle.rules.proofs.Replies.{obey-carried}
 use Rattle.store.specs.Sound.{sound}
 use Rattle.store.specs.View.{view}
-use Rattle.store.proofs.LegalView.{desk-of-view}
+use Rattle.views.proofs.LegalView.{desk-of-view}
 use Rattle.depot.specs.declared.Answer.{Answer}
 use Rattle.depot.specs.declared.Answer.the-variants.{Refused, Reply, Sighted, Done}
 use Rattle.depot.specs.Called.{Called, Ended, stepOn}
@@ -73,7 +73,7 @@ frame-brief : (f s : List ℕ) (room : ℕ) → Octets s → sound s ≡ true �
 unfolding step placed
 frame-brief f s room o e =
     let n = request f .address in
-    unless-brief (first (frameRefusals f room)) (view s) (placed (view s) n (served f (deskAt (view s) n))) (served-brief f (deskAt (view s) n) (desk-of-view s n e o))
+    unless-brief (first (frameRefusals f room)) (view s) (placed (view s) n (served f (deskAt (view s) n))) (served-brief f (deskAt (view s) n) (desk-of-view s n e))
 
 sighting-brief : (n uid mask : ℕ) (s : List ℕ) → Brief (step (view s) (sighting n uid mask) .answer)
 unfolding step placed sighted

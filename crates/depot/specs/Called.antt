@@ -11,7 +11,7 @@ use Rattle.rules.specs.Box.{Box, Event, Answer as RuleAnswer, refused, reply, s
 use Rattle.store.specs.Layout.{storeSize}
 use Rattle.store.specs.View.{view}
 use Rattle.store.specs.Sound.{sound}
-use Rattle.store.specs.Fresh.{freshStore}
+use Rattle.fresh.specs.Fresh.{freshStore}
 use Rattle.depot.specs.declared.Answer.{Answer}
 use Rattle.depot.specs.declared.Answer.the-variants.{Refused, Reply, Sighted, Done}
 

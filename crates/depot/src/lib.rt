@@ -34,7 +34,7 @@ pub fn fresh(store: &mut [u8]) -> Answer
     if store.len() != store::SIZE {
         return Answer::Refused(Refusal::Unsound);
     }
-    store::fresh::make(store);
+    fresh::make(store);
     Answer::Done
 }
 

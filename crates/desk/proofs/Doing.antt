@@ -7,16 +7,16 @@ use lib.ListN.{length, set}
 use lib.Seq.{set-getD, set-set}
 use Rattle.octets.specs.Parts.{put}
 use Rattle.octets.specs.Numbers.{Octets}
-use Rattle.table.specs.Entries.{desks, entryCount, entries, recordsOf}
+use Rattle.table.specs.Entries.{desks, entryCount, entries, recordsOf, ownersBelow}
 use Rattle.rules.specs.Desk.{Desk, freshDesk}
 use Rattle.rules.specs.Box.{deskAt}
 use Rattle.rules.proofs.Facts.{DeskLegal}
 use Rattle.store.specs.Layout.{rowWidth, sizeOf, header, startOf, rowAt, rowOf, recounted}
 use Rattle.store.specs.View.{deskIn, inUse, view}
-use Rattle.store.specs.Sound.{sound, rowSound, tableSound}
-use Rattle.store.proofs.Changes.{Sound, sound-facts, sound-test}
-use Rattle.store.proofs.Anew.{row-length, row-sound, desk-is, Left, row-anew, entries-anew}
-use Rattle.store.proofs.LegalView.{RowSound, row-facts, legal-row, legal-at}
+use Rattle.store.specs.Sound.{sound}
+use Rattle.store.proofs.Changes.{Flagged, Sound, sound-facts, sound-test}
+use Rattle.views.proofs.Anew.{row-length, row-flags as flagged, desk-is, Left, row-anew, entries-anew}
+use Rattle.views.proofs.LegalView.{legal-at}
 use Rattle.rows.proofs.Flagged.{Flags}
 use Rattle.desk.specs.Obeyed.{kept, Says}
 
@@ -31,14 +31,11 @@ module _ (s : List ℕ) (e : sound s ≡ true) (d : ℕ) (h : d < desks) where
   pub row-size : length (rowOf d s) ≡ rowWidth
   row-size = row-length s facts d h
 
-  pub row-right : RowSound (length (recordsOf d (inUse s))) (rowOf d s)
-  row-right = row-facts _ (rowOf d s) (row-sound s facts d h)
-
   pub row-flags : Flags (rowOf d s)
-  row-flags = record { login = row-right .login; mark = row-right .mark }
+  row-flags = let f : Flagged (rowOf d s) = flagged s facts d h in record { login = f .login; mark = f .mark }
 
   pub kept-legal : Octets s → DeskLegal (kept d s)
-  kept-legal o = legal-at s facts o d h
+  kept-legal o = legal-at s facts d
 
   -- nothing is changed
   pub unchanged : Says d (kept d s) s s
@@ -49,18 +46,16 @@ module _ (s : List ℕ) (e : sound s ≡ true) (d : ℕ) (h : d < desks) where
   pub row-says : (row : List ℕ) (desk′ : Desk) → length row ≡ rowWidth → deskIn row (recordsOf d (inUse s)) ≡ desk′ → DeskLegal desk′ → Flags row
       → Says d desk′ s (put (rowAt d s) row s)
   row-says row desk′ l q p f =
-      let ok : rowSound (length (recordsOf d (inUse s))) row ≡ true = legal-row row (recordsOf d (inUse s)) (rw q p) (f .login) (f .mark) in
-      let left : Left d row (recordsOf d (inUse s)) s (put (rowAt d s) row s) = row-anew s facts d h row l ok in
+      let left : Left d row (recordsOf d (inUse s)) s (put (rowAt d s) row s) = row-anew s facts d h row l record { login = f .login; mark = f .mark } (rw q p) in
       record { still = sound-test _ (left .still); view-is = left .now-view ∙ ap (set (view s) d) q }
 
   -- the entries anew: those of other desks as they were
-  pub entries-say : (t : List ℕ) (n : ℕ) (desk′ : Desk) → (l : length t ≡ sizeOf 2) → (few : n ≤ entryCount) → tableSound (entries n t) ≡ true
+  pub entries-say : (t : List ℕ) (n : ℕ) (desk′ : Desk) → (l : length t ≡ sizeOf 2) → (few : n ≤ entryCount) → ownersBelow desks (entries n t) ≡ true
       → ((c : ℕ) → c < desks → (c ≡ d → ⊥) → recordsOf c (entries n t) ≡ recordsOf c (inUse s))
       → deskIn (rowOf d s) (recordsOf d (entries n t)) ≡ desk′ → DeskLegal desk′
       → Says d desk′ s (recounted n (put (startOf (header s) 2) t s))
   entries-say t n desk′ l few ok others q p =
-      let fine : rowSound (length (recordsOf d (entries n t))) (rowOf d s) ≡ true = legal-row (rowOf d s) (recordsOf d (entries n t)) (rw q p) (row-flags .login) (row-flags .mark) in
-      let left : Left d (rowOf d s) (recordsOf d (entries n t)) s (recounted n (put (startOf (header s) 2) t s)) = entries-anew s facts d h t l n few ok others fine in
+      let left : Left d (rowOf d s) (recordsOf d (entries n t)) s (recounted n (put (startOf (header s) 2) t s)) = entries-anew s facts d h t l n few ok others (rw q p) in
       record { still = sound-test _ (left .still); view-is = left .now-view ∙ ap (set (view s) d) q }
 
 -- one after the other at the same desk

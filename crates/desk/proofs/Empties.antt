@@ -28,7 +28,7 @@ use Rattle.store.specs.Rows.{field, fields, dueAt, startAt}
 use Rattle.store.specs.View.{deskOf, deskIn, inUse}
 use Rattle.store.specs.Sound.{sound}
 use Rattle.store.proofs.Changes.{sound-facts}
-use Rattle.store.proofs.Anew.{row-now, entries-kept}
+use Rattle.views.proofs.Anew.{row-now, entries-kept}
 use Rattle.desk.specs.declared.Reply.{Reply}
 use Rattle.desk.specs.Obeyed.{kept, Says, Quiet}
 use Rattle.rows.specs.Row.{closedRow, clearedRow, systemRow}

@@ -12,10 +12,10 @@ use Rattle.table.specs.Entries.{desks}
 use Rattle.store.specs.Layout.{storeSize, rowWidth, rowAt, rowOf}
 use Rattle.store.specs.Sound.{sound}
 use Rattle.store.proofs.Changes.{sound-facts}
-use Rattle.store.proofs.Anew.{row-inside as inside}
+use Rattle.views.proofs.LegalView.{few-locks as few}
+use Rattle.views.proofs.Anew.{row-inside as inside}
 use Rattle.octets.proofs.Numbers.{number-at}
 use Rattle.store.specs.Rows.{field, countAt}
-use Rattle.desk.proofs.Doing.{row-right}
 
 pub sound-size : (s : List ℕ) → sound s ≡ true → length s ≡ storeSize
 sound-size s e = sound-facts s e .size
@@ -56,4 +56,4 @@ module _ (s : List ℕ) (e : sound s ≡ true) (d : ℕ) (h : d < desks) where
   -- at most 64 locks
   pub few-locks : getD (rowOf d s) countAt 0 ≤ 64
   unfolding field
-  few-locks = rw number-at at (row-right s e d h .count)
+  few-locks = rw number-at at (few s (sound-facts s e) d h)

@@ -10,18 +10,17 @@ use lib.Seq.{length-take-le}
 use lib.ListN.{length, take, drop, length-take, length-drop, length-append}
 use Rattle.octets.specs.Parts.{part, put, joined}
 use Rattle.octets.specs.Numbers.{octets}
-use Rattle.octets.proofs.Tests.{and-right}
 use Rattle.octets.proofs.Puts.{put-length, put-append}
 use Rattle.octets.proofs.Lent.{put-mid, put-lent}
 use Rattle.octets.proofs.Numbers.{octets-length}
-use Rattle.table.specs.Entries.{recordWidth, width, desks, share, entryCount, entries, recordsOf, without, ownersBelow, sharesKept}
+use Rattle.table.specs.Entries.{recordWidth, width, desks, share, entryCount, entries, recordsOf, without}
 use Rattle.table.proofs.Changes.{remove-fewer, gather-size}
-use Rattle.table.proofs.Shares.{sharesKept-at}
 use Rattle.rules.specs.Records.{counted}
 use Rattle.store.specs.Layout.{storeSize, header, startOf, usedOf, area}
 use Rattle.store.specs.View.{inUse}
-use Rattle.store.specs.Sound.{sound, tableSound}
+use Rattle.store.specs.Sound.{sound}
 use Rattle.store.proofs.Changes.{Sound, sound-facts, area-length}
+use Rattle.views.proofs.LegalView.{few-records}
 use Rattle.store.proofs.LentAreas.{areas-at, areas-header, entries-lent}
 use Rattle.desk.specs.Removal.{removedFrom}
 
@@ -33,8 +32,7 @@ module _ (s : List ℕ) (e : sound s ≡ true) where
   facts = sound-facts s e
 
   pub few-held : (d : ℕ) → d < desks → length (recordsOf d (inUse s)) ≤ share
-  unfolding tableSound
-  few-held d h = sharesKept-at (inUse s) d (and-right (ownersBelow desks (inUse s)) (sharesKept (inUse s)) (facts .table)) h
+  few-held d h = few-records s facts d h
 
   pub use-fits : width * usedOf (header s) ≤ length (area s 2)
   use-fits = omega (arith, facts .head .used, area-length s facts 2 (lit< tt))

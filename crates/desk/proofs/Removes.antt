@@ -1,21 +1,20 @@
 -- The first records of a desk are removed: the store says the desk with those left. Assumes nothing.
 use Prim.Native.Nat.{ℕ, _<_}
 use mathlib.Core.Path.{_≡_, sym, ap, _∙_}
-use mathlib.Core.Bool.{true, _&&_}
+use mathlib.Core.Bool.{true}
 use mathlib.Core.List.{List}
 use native.Mathlib.Omega.{arith}
 use lib.Dec.{lit<}
 use lib.ListN.{length, drop}
 use Rattle.octets.specs.Parts.{put, joined}
-use Rattle.octets.proofs.Tests.{and-left, and-right}
 use Rattle.octets.proofs.Puts.{put-length}
-use Rattle.table.specs.Entries.{desks, entries, recordsOf, without, ownersBelow, sharesKept}
-use Rattle.table.proofs.Changes.{removed, remove-fewer, remove-owners, remove-shares, remove-own, remove-others}
+use Rattle.table.specs.Entries.{desks, entries, recordsOf, without, ownersBelow}
+use Rattle.table.proofs.Changes.{removed, remove-fewer, remove-owners, remove-own, remove-others}
 use Rattle.rules.specs.Desk.{Desk}
 use Rattle.rules.proofs.Facts.{DeskLegal}
 use Rattle.store.specs.Layout.{header, usedOf, area, rowOf}
 use Rattle.store.specs.View.{deskIn, inUse}
-use Rattle.store.specs.Sound.{sound, tableSound}
+use Rattle.store.specs.Sound.{sound}
 use Rattle.store.proofs.Changes.{Sound, sound-facts, area-length}
 use Rattle.desk.specs.Obeyed.{Says}
 use Rattle.desk.specs.Removal.{removedFrom}
@@ -26,13 +25,8 @@ module _ (s : List ℕ) (e : sound s ≡ true) where
   facts : Sound s
   facts = sound-facts s e
 
-  table-left : (d k : ℕ) → tableSound (removed (usedOf (header s)) d k (area s 2)) ≡ true
-  unfolding tableSound
-  table-left d k =
-      let n = usedOf (header s) in
-      let a = area s 2 in
-      let ok : ownersBelow desks (entries n a) && sharesKept (entries n a) ≡ true = rw (in-use s) at (facts .table) in
-      rw (remove-owners n d k a (use-fits s e) (and-left (ownersBelow desks (entries n a)) _ ok), remove-shares n d k a (use-fits s e) (and-right (ownersBelow desks (entries n a)) _ ok))
+  owners-left : (d k : ℕ) → ownersBelow desks (removed (usedOf (header s)) d k (area s 2)) ≡ true
+  owners-left d k = remove-owners (usedOf (header s)) d k (area s 2) (use-fits s e) (rw (in-use s) at (facts .owners))
 
   pub removes : (d k : ℕ) (desk′ : Desk) → d < desks → deskIn (rowOf d s) (drop k (recordsOf d (inUse s))) ≡ desk′ → DeskLegal desk′ → Says d desk′ s (removedFrom d k s)
   unfolding removedFrom
@@ -45,6 +39,6 @@ module _ (s : List ℕ) (e : sound s ≡ true) where
       (entries-say s e d h (put 0 (joined es) a) (length es) desk′
       (put-length 0 (joined es) a ∙ area-length s facts 2 (lit< tt))
       (omega (arith, remove-fewer n d k a (use-fits s e), facts .head .used))
-      (table-left d k)
+      (owners-left d k)
       (λ c b ne. remove-others n d k a (use-fits s e) c ne ∙ ap (recordsOf c) (sym (in-use s)))
       (ap (deskIn (rowOf d s)) own ∙ q) p)

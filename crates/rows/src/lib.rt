@@ -179,7 +179,7 @@ pub fn restore_block(row: &mut [u8], eeprom: bool, k: usize)
     requires { ⌜ (length (now row) ≡ rowWidth) × (k < blockCount) ⌝ }
     ensures { λ _. ⌜ now (row .exit) ≡ writtenRow eeprom k (blockAt k defaults) (now (row .entry)) ⌝ }
 {
-    let b = store::fresh::default_block(k);
+    let b = fresh::default_block(k);
     write_block(row, eeprom, k, &b);
 }
 
@@ -188,7 +188,7 @@ pub fn restore_all(row: &mut [u8], eeprom: bool)
     requires { ⌜ length (now row) ≡ rowWidth ⌝ }
     ensures { λ _. ⌜ now (row .exit) ≡ defaultRow eeprom (now (row .entry)) ⌝ }
 {
-    store::fresh::put_memory(row, memory_at(eeprom));
+    fresh::put_memory(row, memory_at(eeprom));
 }
 
 // No records are marked, due or counted, and no locks stand.

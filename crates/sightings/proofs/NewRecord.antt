@@ -10,12 +10,11 @@ use lib.ListN.{length, take, drop}
 use borrow.Author.Tests.{lt-ltb}
 use Rattle.octets.specs.Parts.{part, put}
 use Rattle.octets.specs.Numbers.{Octets}
-use Rattle.octets.proofs.Tests.{and-left, and-right}
 use Rattle.octets.proofs.Puts.{put-length}
 use Rattle.octets.proofs.Lent.{put-mid}
 use Rattle.table.specs.Entries.{width, desks, share, entryCount, entries, recordsOf, ownersBelow, sharesKept}
 use Rattle.table.proofs.Room.{room-entry}
-use Rattle.table.proofs.Changes.{appended, append-owners, append-shares, append-own, append-others}
+use Rattle.table.proofs.Changes.{appended, append-owners, append-own, append-others}
 use Rattle.rules.specs.Desk.{Desk, withTable}
 use Rattle.rules.specs.Records.{withRecord}
 use Rattle.rules.proofs.Facts.{RecordLegal, DeskLegal}
@@ -23,9 +22,10 @@ use Rattle.rules.proofs.Tables.{recorded-legal}
 use Rattle.rules.proofs.Legality.{table-legal}
 use Rattle.store.specs.Layout.{storeSize, sizeOf, header, startOf, usedOf, area, recounted, rowAt, rowOf}
 use Rattle.store.specs.View.{deskOf, deskIn, inUse}
-use Rattle.store.specs.Sound.{sound, tableSound}
+use Rattle.store.specs.Sound.{sound}
 use Rattle.store.proofs.LentAreas.{areas-at, areas-header}
 use Rattle.store.proofs.Places.{start-counted}
+use Rattle.views.proofs.LegalView.{shares-kept}
 use Rattle.store.proofs.Changes.{Sound, sound-facts, area-length, header-kept, header-counted}
 use Rattle.sightings.specs.Sighted.{recordedIn}
 use Rattle.desk.specs.Obeyed.{kept, Says}
@@ -78,12 +78,10 @@ module _ (s : List ℕ) (e : sound s ≡ true) (d : ℕ) (h : d < desks) (few : 
   facts = sound-facts s e
 
   owners : ownersBelow desks (entries (usedOf (header s)) (area s 2)) ≡ true
-  unfolding tableSound
-  owners = rw in-use at (and-left (ownersBelow desks (inUse s)) (sharesKept (inUse s)) (facts .table))
+  owners = rw in-use at (facts .owners)
 
   shares : sharesKept (entries (usedOf (header s)) (area s 2)) ≡ true
-  unfolding tableSound
-  shares = rw in-use at (and-right (ownersBelow desks (inUse s)) (sharesKept (inUse s)) (facts .table))
+  shares = rw in-use at (shares-kept s facts)
 
   few-there : length (recordsOf d (entries (usedOf (header s)) (area s 2))) < share
   few-there = rw in-use at few
@@ -103,13 +101,8 @@ module _ (s : List ℕ) (e : sound s ≡ true) (d : ℕ) (h : d < desks) (few : 
     unfolding filled
     filled-size = put-length (width * usedOf (header s)) (d ∷ r) (area s 2) ∙ area-length s facts 2 (lit< tt)
 
-    table-sound : tableSound (appended (usedOf (header s)) d r (area s 2)) ≡ true
-    unfolding tableSound
-    table-sound =
-        rw (
-          append-owners (usedOf (header s)) d r (area s 2) (legal .size) room-there owners h,
-          append-shares (usedOf (header s)) d r (area s 2) (legal .size) room-there shares few-there,
-        )
+    owners-now : ownersBelow desks (appended (usedOf (header s)) d r (area s 2)) ≡ true
+    owners-now = append-owners (usedOf (header s)) d r (area s 2) (legal .size) room-there owners h
 
     others : (c : ℕ) → c < desks → (c ≡ d → ⊥) → recordsOf c (appended (usedOf (header s)) d r (area s 2)) ≡ recordsOf c (inUse s)
     others c b ne = append-others (usedOf (header s)) d r (area s 2) (legal .size) room-there c ne ∙ ap (recordsOf c) (sym (in-use s))
@@ -131,7 +124,7 @@ module _ (s : List ℕ) (e : sound s ≡ true) (d : ℕ) (h : d < desks) (few : 
     unfolding recordedIn filled
     recorded-says o =
         entries-say s e d h filled (usedOf (header s) + 1) (withTable (withRecord r (kept d s .table)) (kept d s)) filled-size (omega (arith, has-room))
-        table-sound others means (recorded-desk o)
+        owners-now others means (recorded-desk o)
 
     -- the row stays where it is
     pub same-place : rowAt d (recordedIn d r s) ≡ rowAt d s

@@ -11,7 +11,7 @@ use Rattle.rules.specs.Desk.{Desk, freshDesk}
 use Rattle.rules.specs.Box.{deskAt}
 use Rattle.store.specs.Layout.{rowWidth, areas}
 use Rattle.store.specs.View.{rowsIn, inUse, viewOf, view}
-use Rattle.store.proofs.Boxes.{box-length}
+use Rattle.store.proofs.Contents.{box-length}
 use Rattle.desk.specs.Obeyed.{kept, Says}
 
 pub view-length : (s : List ℕ) → length (view s) ≡ desks

@@ -5,59 +5,74 @@ use mathlib.Core.List.{List}
 use mathlib.Core.Bool.{true}
 use native.Mathlib.Omega.{arith}
 use lib.ListN.{length}
-use lib.Dec.{lit<}
-use borrow.Author.Tests.{eqb-true, eq-eqb}
-use Rattle.octets.specs.Tests.{every}
+use lib.Dec.{leb, lit<}
+use borrow.Author.Tests.{leb-true, le-leb, eqb-true, eq-eqb}
 use Rattle.octets.specs.Parts.{part, put}
-use Rattle.octets.specs.Numbers.{octets}
+use Rattle.octets.specs.Numbers.{number, octets}
 use Rattle.octets.specs.Areas.{change}
-use Rattle.octets.proofs.Tests.{and-left, and-right}
-use Rattle.octets.proofs.Every.{every-at, every-all}
+use Rattle.octets.proofs.Tests.{and-left, and-right, and-both}
+use Rattle.octets.specs.Each.{All}
+use Rattle.octets.proofs.Each.{all-facts, all-test}
 use Rattle.octets.proofs.Puts.{part-length, part-put-away, part-put-in, apart-within}
 use Rattle.octets.proofs.Numbers.{octets-length}
 use Rattle.octets.proofs.Areas.{upto-change}
-use Rattle.table.specs.Entries.{desks, entryCount}
+use Rattle.table.specs.Entries.{desks, entryCount, ownersBelow}
+use Rattle.rules.proofs.Facts.{BoxLegal, box-facts, box-test}
 use Rattle.store.specs.Layout.{recounted, storeSize, sizeOf, header, startOf, usedOf, area, areas, headerArea, areaCount, headerSize, usedAt}
-use Rattle.store.specs.View.{rowsIn, entriesIn}
-use Rattle.store.specs.Sound.{fine, tableSound, deskSound, contents, sound}
+use Rattle.store.specs.Rows.{loginField, markField, field}
+use Rattle.store.specs.View.{rowsIn, inUse, viewOf, view}
+use Rattle.store.specs.Sound.{flagsRight, contents, sound}
+use Rattle.store.proofs.LentAreas.{area-size}
 use Rattle.store.proofs.Places.{Fine, fine-facts, fine-test, start-counted, used-counted}
 
 -- ---- the tests and the facts
 
+-- login and mark of a row are 0 or 1
+pub record Flagged (row : List ℕ) : Type 0 where
+  pub login : number (field row loginField) ≤ 1
+  pub mark : number (field row markField) ≤ 1
+
+flags-facts : (row : List ℕ) → flagsRight row ≡ true → Flagged row
+unfolding flagsRight
+flags-facts row e = record { login = leb-true _ 1 (and-left _ _ e); mark = leb-true _ 1 (and-right (leb (number (field row loginField)) 1) _ e) }
+
+flags-test : (row : List ℕ) → Flagged row → flagsRight row ≡ true
+unfolding flagsRight
+flags-test row f = and-both _ _ (le-leb _ 1 (f .login)) (le-leb _ 1 (f .mark))
+
 pub record Sound (s : List ℕ) : Type 0 where
   pub size : length s ≡ storeSize
   pub head : Fine (header s)
-  pub table : tableSound (entriesIn (areas s)) ≡ true
-  pub each : (d : ℕ) → d < desks → deskSound (rowsIn (areas s)) (entriesIn (areas s)) d ≡ true
+  pub owners : ownersBelow desks (inUse s) ≡ true
+  pub flags : All Flagged (rowsIn (areas s))
+  pub box : BoxLegal (view s)
 
 pub sound-facts : (s : List ℕ) → sound s ≡ true → Sound s
-unfolding sound contents
+unfolding sound contents view
 sound-facts s e =
-    let h : fine (header s) ≡ true = search (and-left, and-right) in
-    let t : tableSound (entriesIn (areas s)) ≡ true = search (and-left, and-right) in
-    let r : every desks (deskSound (rowsIn (areas s)) (entriesIn (areas s))) ≡ true = search (and-left, and-right) in
     record {
       size = eqb-true (length s) storeSize (search (and-left, and-right));
-      head = fine-facts (header s) h;
-      table = t;
-      each = λ d l. every-at desks (deskSound (rowsIn (areas s)) (entriesIn (areas s))) d r l;
+      head = fine-facts (header s) (search (and-left, and-right));
+      owners = search (and-left, and-right);
+      flags = all-facts flagsRight Flagged flags-facts (rowsIn (areas s)) (search (and-left, and-right));
+      box = box-facts (viewOf (areas s)) (search (and-left, and-right));
     }
 
 pub sound-test : (s : List ℕ) → Sound s → sound s ≡ true
-unfolding sound contents
+unfolding sound contents view
 sound-test s f =
     rw (
       eq-eqb (length s) storeSize (f .size),
       fine-test (header s) (f .head),
-      f .table,
-      every-all desks (deskSound (rowsIn (areas s)) (entriesIn (areas s))) (f .each),
+      f .owners,
+      all-test flagsRight Flagged flags-test (rowsIn (areas s)) (f .flags),
     )
+    (box-test (viewOf (areas s)) (f .box))
 
 -- ---- the areas
 
 pub area-length : (s : List ℕ) → Sound s → (k : ℕ) → k < areaCount → length (area s k) ≡ sizeOf k
-unfolding area
-area-length s f k l = part-length (startOf (header s) k) (sizeOf k) s (omega (arith, f .head .within k l, f .size))
+area-length s f k l = area-size s (f .size) (f .head) k l
 
 pub area-0 : (s : List ℕ) → area s headerArea ≡ header s
 unfolding area startOf header

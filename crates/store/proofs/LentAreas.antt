@@ -4,14 +4,15 @@ use mathlib.Core.Path.{_≡_, sym, ap, _∙_}
 use mathlib.Core.List.{List, []}
 use native.Mathlib.Omega.{arith}
 use lib.Dec.{lit<}
-use lib.ListN.{take, drop, getD}
+use lib.ListN.{length, take, drop, getD}
 use Rattle.octets.specs.Parts.{part, rows}
 use Rattle.octets.proofs.Areas.{upto-at}
-use Rattle.octets.proofs.Puts.{part-part}
+use Rattle.octets.proofs.Puts.{part-part, part-length}
 use Rattle.octets.proofs.Rows.{rows-at}
 use Rattle.table.specs.Entries.{desks, width, entryCount, entries}
-use Rattle.store.specs.Layout.{rowWidth, sizeOf, header, startOf, usedOf, area, areas, rowAt, headerArea, rowsArea, entriesArea, areaCount}
+use Rattle.store.specs.Layout.{storeSize, rowWidth, sizeOf, header, startOf, usedOf, area, areas, rowAt, headerArea, rowsArea, entriesArea, areaCount}
 use Rattle.store.specs.View.{rowsIn, entriesIn}
+use Rattle.store.proofs.Places.{Fine}
 
 pub areas-at : (s : List ℕ) (k : ℕ) → k < areaCount → getD (areas s) k [] ≡ area s k
 unfolding areas
@@ -21,6 +22,10 @@ areas-at s k l = upto-at areaCount (area s) k l
 pub areas-header : (s : List ℕ) → getD (areas s) headerArea [] ≡ header s
 unfolding area startOf header
 areas-header s = areas-at s headerArea (lit< tt)
+
+pub area-size : (s : List ℕ) → length s ≡ storeSize → Fine (header s) → (k : ℕ) → k < areaCount → length (area s k) ≡ sizeOf k
+unfolding area
+area-size s size f k l = part-length (startOf (header s) k) (sizeOf k) s (omega (arith, f .within k l))
 
 -- the row of desk d, in the store
 pub row-in : (s : List ℕ) (d : ℕ) → d < desks → getD (rowsIn (areas s)) d [] ≡ part (rowAt d s) rowWidth s

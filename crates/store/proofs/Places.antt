@@ -3,6 +3,7 @@ use Prim.Native.Nat.{ℕ, zero, suc, _+_, _*_, _≤_, _<_}
 use mathlib.Core.Path.{_≡_, refl}
 use mathlib.Core.List.{List}
 use mathlib.Core.Bool.{true}
+use lib.Dec.{leb}
 use mathlib.Core.Logic.{inr}
 use native.Mathlib.Omega.{arith}
 use lib.ListN.{length}
@@ -10,14 +11,14 @@ use borrow.Author.Tests.{leb-true, le-leb}
 use Rattle.octets.specs.Tests.{every}
 use Rattle.octets.specs.Parts.{put, Apart}
 use Rattle.octets.specs.Numbers.{octets}
-use Rattle.octets.specs.Areas.{clear}
-use Rattle.octets.proofs.Tests.{and-left, and-right}
+use Rattle.octets.specs.Areas.{clearBelow, clear}
+use Rattle.octets.proofs.Tests.{both, and-both}
 use Rattle.octets.proofs.Every.{every-at, every-all}
 use Rattle.octets.proofs.Areas.{clear-apart, apart-clear}
 use Rattle.octets.proofs.Numbers.{u16At-away, u16At-put}
 use Rattle.table.specs.Entries.{entryCount}
 use Rattle.store.specs.Layout.{storeSize, sizeOf, startOf, usedOf, areaCount, headerSize, usedAt}
-use Rattle.store.specs.Sound.{ends, fine}
+use Rattle.store.specs.Sound.{areaFits, fine}
 
 pub record Fine (h : List ℕ) : Type 0 where
   pub within : (k : ℕ) → k < areaCount → startOf h k + sizeOf k ≤ storeSize
@@ -27,18 +28,23 @@ pub record Fine (h : List ℕ) : Type 0 where
 pub fine-facts : (h : List ℕ) → fine h ≡ true → Fine h
 unfolding fine
 fine-facts h e =
-    let inside : every areaCount (ends h) ≡ true = search (and-left, and-right) in
-    let apart : clear areaCount (startOf h) sizeOf ≡ true = search (and-left, and-right) in
+    let all = both (every areaCount (areaFits h)) (leb (usedOf h) entryCount) e in
     record {
-      within = λ k l. leb-true _ _ (every-at areaCount (ends h) k inside l);
-      apart = clear-apart areaCount (startOf h) sizeOf apart;
-      used = leb-true _ _ (search (and-left, and-right));
+      within = λ k l. leb-true _ _ (each (all .0) k l .0);
+      apart = clear-apart areaCount (startOf h) sizeOf (every-all areaCount _ (λ k l. each (all .0) k l .1));
+      used = leb-true _ _ (all .1);
     }
+  where
+    each : every areaCount (areaFits h) ≡ true → (k : ℕ) → k < areaCount → (leb (startOf h k + sizeOf k) storeSize ≡ true) × (clearBelow (startOf h) sizeOf k ≡ true)
+    each q k l = both (leb (startOf h k + sizeOf k) storeSize) (clearBelow (startOf h) sizeOf k) (every-at areaCount (areaFits h) k q l)
 
 pub fine-test : (h : List ℕ) → Fine h → fine h ≡ true
 unfolding fine
 fine-test h f =
-    rw (every-all areaCount (ends h) (λ k l. le-leb _ _ (f .within k l)), apart-clear areaCount (startOf h) sizeOf (f .apart), le-leb _ _ (f .used))
+    let clears : clear areaCount (startOf h) sizeOf ≡ true = apart-clear areaCount (startOf h) sizeOf (f .apart) in
+    and-both (every areaCount (areaFits h)) (leb (usedOf h) entryCount)
+    (every-all areaCount (areaFits h) (λ k l. and-both _ _ (le-leb _ _ (f .within k l)) (every-at areaCount (clearBelow (startOf h) sizeOf) k clears l)))
+    (le-leb _ _ (f .used))
 
 -- a header that says the same places, and a count in range
 same-places : (h h′ : List ℕ) → Fine h → ((j : ℕ) → j < areaCount → startOf h′ j ≡ startOf h j) → usedOf h′ ≤ entryCount → Fine h′

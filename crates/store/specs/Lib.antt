@@ -2,4 +2,3 @@ pub mod Layout
 pub mod Rows
 pub mod View
 pub mod Sound
-pub mod Fresh

@@ -5,7 +5,6 @@ ghost use lib.ListN.{length};
 ghost use Rattle.table.specs.Entries.{desks};
 ghost use Rattle.store.specs.Layout.{storeSize, areaCount, headerSize, sizeOf, header, startOf, usedOf, rowAt};
 
-pub mod fresh;
 pub mod sound;
 
 // The store's octets.

@@ -21,20 +21,23 @@ use crate::size;
 use crate::start;
 use crate::used;
 ghost use mathlib.Core.Path.{_≡_};
-ghost use mathlib.Core.Bool.{true};
+ghost use mathlib.Core.Bool.{true, not, _&&_, _||_};
 ghost use mathlib.Core.List.{[]};
 ghost use Prim.Native.Nat.{_+_, _≤_, _<_};
 ghost use lib.ListN.{length, getD};
-ghost use Rattle.octets.specs.Tests.{every};
+ghost use lib.Dec.{eqb};
 ghost use Rattle.octets.specs.Parts.{part};
-ghost use Rattle.octets.specs.Areas.{apartb, pairClear, clearBelow, clear};
+ghost use Rattle.octets.specs.Numbers.{number};
+ghost use Rattle.octets.specs.Areas.{apartb, pairClear};
 ghost use Rattle.timer.specs.Clock.{timerLegal, timerFrom};
-ghost use Rattle.table.specs.Entries.{desks};
-ghost use Rattle.rules.specs.Config.{memorySize, blockAt, lineLegal};
+ghost use Rattle.locks.specs.Locks.{locksLegal, locksIn};
+ghost use Rattle.table.specs.Entries.{desks, share};
+ghost use Rattle.rules.specs.Config.{memorySize};
+ghost use Rattle.rules.specs.Legal.{memoryLegal, tableLegal};
 ghost use Rattle.store.specs.Layout.{storeSize, areaCount, headerSize, rowWidth, sizeOf, header, startOf, areas};
-ghost use Rattle.store.specs.Rows.{timerField, fields};
-ghost use Rattle.store.specs.View.{rowsIn};
-ghost use Rattle.store.specs.Sound.{ends, fine, countsRight, blocksLegal, markRight, dueRight, locksRight, rowSound, contents, sound};
+ghost use Rattle.store.specs.Rows.{ramField, eepromField, validField, timerField, markField, countField, locksField, field};
+ghost use Rattle.store.specs.View.{deskIn, rowsIn};
+ghost use Rattle.store.specs.Sound.{areaFits, fine, flagsRight, rowSound, Tells, contents, sound};
 
 // How many records a desk may hold, as an octet.
 const SHARE: u8 = table::SHARE as u8;
@@ -63,14 +66,6 @@ fn apart(at: usize, n: usize, there: usize, m: usize) -> bool
     there + m <= at
 }
 
-// Whether area k ends within the store.
-fn inside(s: &[u8], k: usize) -> bool
-    requires { ⌜ (k < areaCount) × (headerSize ≤ length (now s)) ⌝ }
-    ensures { λ r. ⌜ r ≡ ends (header (now (s .entry))) k ⌝ }
-{
-    start(s, k) + size(k) <= SIZE
-}
-
 // Whether areas i and j share no octet.
 fn clear_pair(s: &[u8], i: usize, j: usize) -> bool
     requires { ⌜ (i < areaCount) × (j < areaCount) × (headerSize ≤ length (now s)) ⌝ }
@@ -79,29 +74,17 @@ fn clear_pair(s: &[u8], i: usize, j: usize) -> bool
     apart(start(s, i), size(i), start(s, j), size(j))
 }
 
-// Whether each area ends within the store.
-fn all_inside(s: &[u8]) -> bool
-    requires { ⌜ headerSize ≤ length (now s) ⌝ }
-    ensures { λ r. ⌜ r ≡ every areaCount (ends (header (now (s .entry)))) ⌝ }
+// Whether area k ends within the store, and shares no octet with an area before it.
+fn area_fits(s: &[u8], k: usize) -> bool
+    requires { ⌜ (k < areaCount) × (headerSize ≤ length (now s)) ⌝ }
+    ensures { λ r. ⌜ r ≡ areaFits (header (now (s .entry))) k ⌝ }
 {
-    let mut k: usize = 0;
-    while k < AREAS {
-        if !inside(s, k) {
-            return false;
-        }
-        k += 1;
+    if start(s, k) + size(k) > SIZE {
+        return false;
     }
-    true
-}
-
-// Whether area j shares no octet with an area before it.
-fn clear_below(s: &[u8], j: usize) -> bool
-    requires { ⌜ (j < areaCount) × (headerSize ≤ length (now s)) ⌝ }
-    ensures { λ r. ⌜ r ≡ clearBelow (startOf (header (now (s .entry)))) sizeOf j ⌝ }
-{
     let mut i: usize = 0;
-    while i < j {
-        if !clear_pair(s, i, j) {
+    while i < k {
+        if !clear_pair(s, i, k) {
             return false;
         }
         i += 1;
@@ -109,66 +92,38 @@ fn clear_below(s: &[u8], j: usize) -> bool
     true
 }
 
-// Whether no two areas share an octet.
-fn all_clear(s: &[u8]) -> bool
-    requires { ⌜ headerSize ≤ length (now s) ⌝ }
-    ensures { λ r. ⌜ r ≡ clear areaCount (startOf (header (now (s .entry)))) sizeOf ⌝ }
-{
-    let mut j: usize = 0;
-    while j < AREAS {
-        if !clear_below(s, j) {
-            return false;
-        }
-        j += 1;
-    }
-    true
-}
-
-// Whether the header is: areas inside and clear of each other, the count of entries in range.
+// Whether the header is: each area fits, and the count of entries is in range.
 fn header_fine(s: &[u8]) -> bool
     requires { ⌜ headerSize ≤ length (now s) ⌝ }
     ensures { λ r. ⌜ r ≡ fine (header (now (s .entry))) ⌝ }
 {
-    if !all_inside(s) {
-        return false;
-    }
-    if !all_clear(s) {
-        return false;
+    let mut k: usize = 0;
+    while k < AREAS {
+        if !area_fits(s, k) {
+            return false;
+        }
+        k += 1;
     }
     used(s) <= ENTRIES
 }
 
 // ---- a row
 
-// Whether login and mark are 0 or 1, TAB-START below 64, and the locks at most 64.
-fn counts_right(row: &[u8]) -> bool
+// Whether login and mark are 0 or 1.
+fn flags_right(row: &[u8]) -> bool
     requires { ⌜ length (now row) ≡ rowWidth ⌝ }
-    ensures { λ r. ⌜ r ≡ countsRight (fields (now (row .entry))) ⌝ }
+    ensures { λ r. ⌜ r ≡ flagsRight (now (row .entry)) ⌝ }
 {
     if row[LOGIN] > 1 {
         return false;
     }
-    if row[MARK] > 1 {
-        return false;
-    }
-    if row[TAB_START] >= SHARE {
-        return false;
-    }
-    row[LOCKED] <= MOST_LOCKS
+    row[MARK] <= 1
 }
 
-// Whether the timer is in its ranges.
-fn timer_right(row: &[u8]) -> bool
-    requires { ⌜ length (now row) ≡ rowWidth ⌝ }
-    ensures { λ r. ⌜ r ≡ timerLegal (timerFrom (getD (fields (now (row .entry))) timerField [])) ⌝ }
-{
-    timer::legal(timer::read(row, TIMER))
-}
-
-// Whether block 7 of the memory at a place of the row is legal.
-fn block_legal(row: &[u8], at: usize) -> bool
+// Whether the memory at a place of the row is legal: its block 7 is.
+fn memory_right(row: &[u8], at: usize) -> bool
     requires { ⌜ at + memorySize ≤ length (now row) ⌝ }
-    ensures { λ r. ⌜ r ≡ lineLegal (blockAt 7 (part at memorySize (now (row .entry)))) ⌝ }
+    ensures { λ r. ⌜ r ≡ memoryLegal (part at memorySize (now (row .entry))) ⌝ }
 {
     rules::shape_legal(
         row[at + DB_USE],
@@ -178,21 +133,43 @@ fn block_legal(row: &[u8], at: usize) -> bool
     )
 }
 
-// Whether block 7 of both memories is legal.
-fn blocks_legal(row: &[u8]) -> bool
+// Whether both memories are.
+fn memories_right(row: &[u8]) -> bool
     requires { ⌜ length (now row) ≡ rowWidth ⌝ }
-    ensures { λ r. ⌜ r ≡ blocksLegal (fields (now (row .entry))) ⌝ }
+    ensures { λ r. ⌜ r ≡ memoryLegal (field (now (row .entry)) ramField) && memoryLegal (field (now (row .entry)) eepromField) ⌝ }
 {
-    if !block_legal(row, RAM) {
+    if !memory_right(row, RAM) {
         return false;
     }
-    block_legal(row, EEPROM)
+    memory_right(row, EEPROM)
+}
+
+// Whether the timer is in its ranges.
+fn timer_right(row: &[u8]) -> bool
+    requires { ⌜ length (now row) ≡ rowWidth ⌝ }
+    ensures { λ r. ⌜ r ≡ timerLegal (timerFrom (field (now (row .entry)) timerField)) ⌝ }
+{
+    timer::legal(timer::read(row, TIMER))
+}
+
+// Whether the locks are a sound list.
+fn locks_right(row: &[u8]) -> bool
+    requires { ⌜ length (now row) ≡ rowWidth ⌝ }
+    ensures { λ r.
+        ⌜ r ≡ locksLegal (number (field (now (row .entry)) validField))
+        (locksIn (number (field (now (row .entry)) countField)) (field (now (row .entry)) locksField)) ⌝ }
+{
+    let n = row[LOCKED];
+    if n > MOST_LOCKS {
+        return false;
+    }
+    locks::legal(&row[LOCKS..ROW], n as usize, octets::get16(row, VALID))
 }
 
 // Whether the mark stands only where 64 records are held.
 fn mark_right(row: &[u8], held: u16) -> bool
     requires { ⌜ length (now row) ≡ rowWidth ⌝ }
-    ensures { λ r. ⌜ r ≡ markRight held (fields (now (row .entry))) ⌝ }
+    ensures { λ r. ⌜ r ≡ (not (eqb (number (field (now (row .entry)) markField)) 1) || eqb held share) ⌝ }
 {
     if row[MARK] != 1 {
         return true;
@@ -200,47 +177,41 @@ fn mark_right(row: &[u8], held: u16) -> bool
     held == table::SHARE
 }
 
-// Whether the removal due is no more than the records held.
-fn due_right(row: &[u8], held: u16) -> bool
+// Whether at most 64 records are held, the mark stands only where 64 are, the removal due is no more than these, and TAB-START is below 64.
+fn table_right(row: &[u8], held: u16) -> bool
     requires { ⌜ length (now row) ≡ rowWidth ⌝ }
-    ensures { λ r. ⌜ r ≡ dueRight held (fields (now (row .entry))) ⌝ }
+    ensures { λ r. ⌜ Tells held (λ rs. tableLegal (deskIn (now (row .entry)) rs .table)) r ⌝ }
 {
-    row[DUE] as u16 <= held
-}
-
-// Whether the locks are a sound list.
-fn locks_right(row: &[u8]) -> bool
-    requires { ⌜ (length (now row) ≡ rowWidth) × (countsRight (fields (now row)) ≡ true) ⌝ }
-    ensures { λ r. ⌜ r ≡ locksRight (fields (now (row .entry))) ⌝ }
-{
-    locks::legal(
-        &row[LOCKS..ROW],
-        row[LOCKED] as usize,
-        octets::get16(row, VALID),
-    )
-}
-
-// Whether a row is sound, of a desk that holds so many records.
-fn row_sound(row: &[u8], held: u16) -> bool
-    requires { ⌜ length (now row) ≡ rowWidth ⌝ }
-    ensures { λ r. ⌜ r ≡ rowSound held (now (row .entry)) ⌝ }
-{
-    if !counts_right(row) {
-        return false;
-    }
-    if !timer_right(row) {
-        return false;
-    }
-    if !blocks_legal(row) {
+    if held > table::SHARE {
         return false;
     }
     if !mark_right(row, held) {
         return false;
     }
-    if !due_right(row, held) {
+    if row[DUE] as u16 > held {
         return false;
     }
-    locks_right(row)
+    row[TAB_START] < SHARE
+}
+
+// Whether a row is sound, of a desk that holds so many records.
+fn row_sound(row: &[u8], held: u16) -> bool
+    requires { ⌜ length (now row) ≡ rowWidth ⌝ }
+    ensures { λ r. ⌜ Tells held (rowSound (now (row .entry))) r ⌝ }
+{
+    if !flags_right(row) {
+        return false;
+    }
+    if !memories_right(row) {
+        return false;
+    }
+    if !timer_right(row) {
+        return false;
+    }
+    if !locks_right(row) {
+        return false;
+    }
+    table_right(row, held)
 }
 
 // ---- the contents
@@ -248,13 +219,13 @@ fn row_sound(row: &[u8], held: u16) -> bool
 // Whether the row of desk d is sound, which holds so many records.
 fn desk_sound(s: &[u8], d: usize, held: u16) -> bool
     requires { ⌜ (d < desks) × (length (now s) ≡ storeSize) × (fine (header (now s)) ≡ true) ⌝ }
-    ensures { λ r. ⌜ r ≡ rowSound held (getD (rowsIn (areas (now (s .entry)))) d []) ⌝ }
+    ensures { λ r. ⌜ Tells held (rowSound (getD (rowsIn (areas (now (s .entry)))) d [])) r ⌝ }
 {
     let at = row_at(s, d);
     row_sound(&s[at..at + ROW], held)
 }
 
-// Whether the records have desks for owners, at most 64 each, and each desk's row is sound.
+// Whether the records have desks for owners, and each desk's row is sound.
 fn contents_sound(s: &[u8]) -> bool
     requires { ⌜ (length (now s) ≡ storeSize) × (fine (header (now s)) ≡ true) ⌝ }
     ensures { λ r. ⌜ r ≡ contents (areas (now (s .entry))) ⌝ }
@@ -266,9 +237,6 @@ fn contents_sound(s: &[u8]) -> bool
         return false;
     }
     let counts = c.counts;
-    if !table::shares_ok(counts) {
-        return false;
-    }
     let mut d: usize = 0;
     while d < table::DESKS {
         if !desk_sound(s, d, counts[d]) {

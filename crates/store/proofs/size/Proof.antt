@@ -5,14 +5,8 @@ use borrow.Author.Needs.{needs}
 use Rattle.store.proofs.size.Statement.{statement}
 use Rattle.store.proofs.size.Tie as tie
 
-mul-result : tie.Need-mul-result
-mul-result c = search needs
-
-array-read-result : tie.Need-array-read-result
-array-read-result c = search needs
-
 returns : tie.Need-returns
 returns c = (refl, size-small (c .args .k) (c .pre))
 
 pub size-spec : {M : Type 1} → statement M
-size-spec = tie.close (tie.spec mul-result array-read-result returns)
+size-spec = tie.close (tie.spec (λ c. search needs) (λ c. search needs) returns)

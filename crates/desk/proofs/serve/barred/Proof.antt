@@ -2,7 +2,7 @@
 use native.Mathlib.Omega.{arith}
 use borrow.Author.Tests.{not-true, not-false}
 use Rattle.store.proofs.Changes.{sound-facts}
-use Rattle.store.proofs.Anew.{row-inside}
+use Rattle.views.proofs.Anew.{row-inside}
 use Rattle.desk.proofs.Serves.{logged-in}
 use borrow.Author.Needs.{needs}
 use Rattle.desk.proofs.serve.barred.Statement.{statement}

@@ -1,29 +1,49 @@
--- `store::sound::header_fine` meets its contract: each way rewrites the definition by the tests that led there. Assumes nothing.
-use mathlib.Core.Path.{refl}
+-- `store::sound::header_fine` meets its contract. Each area passed fits. Assumes nothing.
+use Prim.Native.Nat.{_≤_, _-_}
+use mathlib.Core.Path.{_≡_, refl}
+use mathlib.Core.Bool.{true}
+use native.Mathlib.Omega.{arith}
 use Rattle.octets.proofs.Tests.{passed, failed}
-use Rattle.store.specs.Sound.{fine}
+use Rattle.octets.specs.Tests.{every}
+use Rattle.octets.proofs.Every.{every-none, every-more, every-false, every-end}
+use Rattle.store.specs.Layout.{areaCount, header}
+use Rattle.store.specs.Sound.{areaFits, fine}
 use borrow.Author.Needs.{needs}
 use Rattle.store.proofs.sound.header_fine.Statement.{statement}
 use Rattle.store.proofs.sound.header_fine.Tie as tie
 
-returns : tie.Need-returns
-unfolding fine
-returns c = rw (failed (c .before .all-inside .ensures) (c .if1 .taken))
+abbrev Inv-loop : tie.InvT-loop
+Inv-loop s k₀ k = (k ≤ areaCount) × (every k (areaFits (header s)) ≡ true)
 
-returns-2 : tie.Need-returns-2
+abbrev μ-loop : tie.MeasureT-loop
+μ-loop s k₀ k = areaCount - k
+
+returns : tie.Need-returns Inv-loop μ-loop
+unfolding fine
+returns c = rw (every-false areaCount (areaFits _) (c .before .before .before .loop .k) (omega arith) (failed (c .before .area-fits .ensures) (c .if1 .taken)))
+
+loop-again : tie.Need-loop-again Inv-loop μ-loop
+loop-again c =
+    let l = c .before .before .before .loop in
+    (omega arith, every-more (l .k) _ (l .inv .1) (passed (c .before .area-fits .ensures) (c .if1 .left)))
+
+returns-2 : tie.Need-returns-2 Inv-loop μ-loop
 unfolding fine
 returns-2 c =
-    let a = c .before .before in
-    rw (passed (a .before .all-inside .ensures) (a .if1 .left), failed (c .before .all-clear .ensures) (c .if2 .taken))
-
-returns-3 : tie.Need-returns-3
-unfolding fine
-returns-3 c =
-    let b = c .before in
-    let a = b .before .before in
-    rw (passed (a .before .all-inside .ensures) (a .if1 .left), passed (b .before .all-clear .ensures) (b .if2 .left), ← c .used .ensures .0) refl
+    let l = c .before .before .loop in
+    rw (every-end areaCount (areaFits _) (l .k) (l .inv .1) (omega arith), ← c .used .ensures .0) refl
 
 pub header-fine-spec : {M : Type 1} → statement M
 header-fine-spec =
     tie.close
-    (tie.spec (λ c κs. search needs) returns (λ c κs. search needs) returns-2 (λ c κs. search needs) returns-3)
+    (tie.spec
+    Inv-loop
+    μ-loop
+    (λ c. (omega arith, every-none _))
+    (λ c κs. omega arith)
+    returns
+    (λ c. omega arith)
+    (λ c. omega arith)
+    loop-again
+    (λ c κs. search needs)
+    returns-2)

@@ -1,8 +1,6 @@
 -- `store::sound::mark_right` meets its contract. Assumes nothing.
 use mathlib.Core.Path.{refl}
-use lib.Dec.{lit<}
 use borrow.Author.Tests.{eq-eqb, ne-eqb}
-use Rattle.store.specs.Sound.{markRight}
 use Rattle.store.specs.Rows.{markField}
 use Rattle.store.proofs.FieldOctets.{field-octet}
 use borrow.Author.Needs.{needs}
@@ -10,12 +8,10 @@ use Rattle.store.proofs.sound.mark_right.Statement.{statement}
 use Rattle.store.proofs.sound.mark_right.Tie as tie
 
 returns : tie.Need-returns
-unfolding markRight
-returns c = rw (field-octet (c .before .before .args .row .now) markField (lit< tt) refl, ne-eqb _ _ (c .if1 .taken))
+returns c = rw (field-octet (c .before .before .args .row .now) markField refl, ne-eqb _ _ (c .if1 .taken))
 
 returns-2 : tie.Need-returns-2
-unfolding markRight
-returns-2 c = rw (field-octet (c .before .before .args .row .now) markField (lit< tt) refl, eq-eqb _ _ (c .if1 .left)) refl
+returns-2 c = rw (field-octet (c .before .before .args .row .now) markField refl, eq-eqb _ _ (c .if1 .left)) refl
 
 pub mark-right-spec : {M : Type 1} → statement M
 mark-right-spec = tie.close (tie.spec (λ c. search needs) returns returns-2)

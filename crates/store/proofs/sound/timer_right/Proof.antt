@@ -1,13 +1,12 @@
 -- `store::sound::timer_right` meets its contract. Assumes nothing.
-use lib.Dec.{lit<}
-use Rattle.store.specs.Rows.{timerField}
-use Rattle.store.proofs.FieldOctets.{field-part}
+use Rattle.store.specs.Rows.{field}
 use borrow.Author.Needs.{needs}
 use Rattle.store.proofs.sound.timer_right.Statement.{statement}
 use Rattle.store.proofs.sound.timer_right.Tie as tie
 
 returns : tie.Need-returns
-returns c = rw (field-part (c .before .before .before .args .row .now) timerField (lit< tt), ← c .before .read .ensures) (c .legal .ensures)
+unfolding field
+returns c = rw (← c .before .read .ensures) (c .legal .ensures)
 
 pub timer-right-spec : {M : Type 1} → statement M
 timer-right-spec = tie.close (tie.spec (λ c κs. search needs) (λ c κs. search needs) returns)

@@ -1,0 +1,45 @@
+-- `store::sound::table_right` meets its contract: each way rewrites the tests by those that led there. Assumes nothing.
+use mathlib.Core.Path.{refl}
+use native.Mathlib.Omega.{arith}
+use borrow.Author.Tests.{le-leb, lt-leb}
+use Rattle.octets.proofs.Tests.{passed, failed}
+use Rattle.store.specs.Rows.{dueAt}
+use Rattle.store.proofs.RowTests.{table-tests}
+use borrow.Author.Needs.{needs}
+use Rattle.store.proofs.sound.table_right.Statement.{statement}
+use Rattle.store.proofs.sound.table_right.Tie as tie
+
+returns : tie.Need-returns
+returns c = record { told = λ rs l p. rw (table-tests _ _ rs l p, lt-leb _ _ (c .if1 .taken)) }
+
+returns-2 : tie.Need-returns-2
+returns-2 c =
+    record { told = λ rs l p. rw (table-tests _ _ rs l p, le-leb _ _ (c .before .before .if1 .left), failed (c .before .mark-right .ensures) (c .if2 .taken)) }
+
+cast-if3 : tie.Need-cast-if3
+cast-if3 c = omega (arith, c .shared-slice-known2 .given dueAt)
+
+returns-3 : tie.Need-returns-3
+returns-3 c =
+    let m = c .before .before in
+    record { told = λ rs l p. rw (table-tests _ _ rs l p, le-leb _ _ (m .before .before .if1 .left), passed (m .before .mark-right .ensures) (m .if2 .left), lt-leb _ _ (c .if3 .taken)) }
+
+returns-4 : tie.Need-returns-4
+returns-4 c =
+    let m = c .before .before .before in
+    record {
+      told = λ rs l p. rw (table-tests _ _ rs l p, le-leb _ _ (m .before .before .if1 .left), passed (m .before .mark-right .ensures) (m .if2 .left), le-leb _ _ (c .before .if3 .left)) refl;
+    }
+
+pub table-right-spec : {M : Type 1} → statement M
+table-right-spec =
+    tie.close
+    (tie.spec
+    returns
+    (λ c κs. search needs)
+    returns-2
+    (λ c. search needs)
+    cast-if3
+    returns-3
+    (λ c. search needs)
+    returns-4)
