@@ -7,29 +7,28 @@ use native.Mathlib.Nat.{add-zero}
 use native.Mathlib.Omega.{arith}
 use lib.Dec.{lit<}
 use lib.Seq.{length-take-le}
-use lib.ListN.{length, take, drop, length-take, length-drop, length-append}
+use lib.ListN.{length, take, drop, length-take, length-drop}
 use borrow.Author.Tests.{lt-ltb}
 use Rattle.octets.specs.Parts.{part, put, joined}
-use Rattle.octets.specs.Numbers.{octets, Octets}
-use Rattle.octets.proofs.Tests.{and-left, and-right}
+use Rattle.octets.specs.Numbers.{octets}
 use Rattle.octets.proofs.Puts.{put-length, put-append}
 use Rattle.octets.proofs.Lent.{put-mid, put-lent}
 use Rattle.octets.proofs.Numbers.{octets-length}
 use Rattle.table.specs.Entries.{recordWidth, width, desks, share, entryCount, entries, recordsOf, without, ownersBelow, sharesKept}
 use Rattle.table.proofs.Room.{room-entry}
-use Rattle.table.proofs.Shares.{sharesKept-at}
-use Rattle.table.proofs.Changes.{removed, remove-fewer, remove-owners, remove-shares, remove-own, remove-others, gather-size, appended, append-owners, append-shares, append-own, append-others}
+use Rattle.table.proofs.Changes.{remove-fewer, remove-owners, remove-own, remove-others, gather-size, append-owners, append-own, append-others}
 use Rattle.rules.specs.Desk.{Desk}
 use Rattle.rules.specs.Records.{counted, withRecord}
 use Rattle.rules.specs.Legal.{recordLegal, deskLegal}
 use Rattle.rules.proofs.Facts.{RecordLegal, DeskLegal, record-facts, desk-facts}
 use Rattle.rules.proofs.Tables.{recorded-legal}
 use Rattle.rules.proofs.Legality.{table-legal}
-use Rattle.store.specs.Layout.{storeSize, sizeOf, header, startOf, usedOf, area, recounted, rowOf, entriesArea, usedAt}
+use Rattle.store.specs.Layout.{storeSize, sizeOf, header, startOf, usedOf, area, recounted, rowOf, entriesArea}
 use Rattle.store.specs.View.{deskOf, deskIn, inUse}
-use Rattle.store.specs.Sound.{sound, tableSound}
+use Rattle.store.specs.Sound.{sound}
 use Rattle.store.proofs.Changes.{Sound, sound-facts, area-length}
 use Rattle.store.proofs.LentAreas.{areas-at, areas-header, entries-lent}
+use Rattle.views.proofs.LegalView.{shares-kept}
 use Rattle.rows.specs.Change.{onTable}
 use Rattle.rows.proofs.Meaning.{recorded, held-anew}
 use Rattle.keeping.specs.Kept.{kept, Says, withHeld}
@@ -56,12 +55,10 @@ module _ (s : List ℕ) (e : sound s ≡ true) where
   use-fits = omega (arith, facts .head .used, there-size)
 
   owners : ownersBelow desks (entries used there) ≡ true
-  unfolding tableSound
-  owners = rw in-use at (and-left (ownersBelow desks (inUse s)) (sharesKept (inUse s)) (facts .table))
+  owners = rw in-use at (facts .owners)
 
   shares : sharesKept (entries used there) ≡ true
-  unfolding tableSound
-  shares = rw in-use at (and-right (ownersBelow desks (inUse s)) (sharesKept (inUse s)) (facts .table))
+  shares = rw in-use at (shares-kept s facts)
 
   module _ (d : ℕ) (h : d < desks) where
     abbrev own : List (List ℕ)
@@ -75,8 +72,7 @@ module _ (s : List ℕ) (e : sound s ≡ true) where
     own-is = ap (recordsOf d) (sym (in-use s)) ∙ sym held-is
 
     pub few-held : length (kept d s .table .held) ≤ share
-    unfolding tableSound
-    few-held = rw held-is (sharesKept-at (inUse s) d (and-right (ownersBelow desks (inUse s)) (sharesKept (inUse s)) (facts .table)) h)
+    few-held = kept-legal s e d h .table .few
 
     -- the first m records, one after the other
     told-length : (m : ℕ) → m ≤ length own → length (joined (take m own)) ≡ recordWidth * m
@@ -89,12 +85,11 @@ module _ (s : List ℕ) (e : sound s ≡ true) where
     pub removes : (k : ℕ) → deskLegal (withHeld (drop k (kept d s .table .held)) (kept d s)) ≡ true
         → Says d (withHeld (drop k (kept d s .table .held)) (kept d s)) s
         (recounted (length (without d k (entries used there))) (put (startOf (header s) entriesArea) (put 0 (joined (without d k (entries used there))) there) s))
-    unfolding tableSound
     removes k p =
         let es = without d k (entries used there) in
         entries-say s e d h (put 0 (joined es) there) (length es) (withHeld (drop k (kept d s .table .held)) (kept d s))
         (put-length 0 (joined es) there ∙ there-size) (omega (arith, remove-fewer used d k there use-fits, facts .head .used))
-        (rw (remove-owners used d k there use-fits owners, remove-shares used d k there use-fits shares))
+        (remove-owners used d k there use-fits owners)
         (λ c b ne. remove-others used d k there use-fits c ne ∙ ap (recordsOf c) (sym (in-use s)))
         (ap (deskIn (rowOf d s)) (remove-own used d k there use-fits ∙ ap (drop k) own-is)
         ∙ held-anew (rowOf d s) own (drop k (kept d s .table .held)) ∙ ap (withHeld (drop k (kept d s .table .held))) (sym (kept-is s e d h)))
@@ -112,15 +107,14 @@ module _ (s : List ℕ) (e : sound s ≡ true) where
       room-there : width * (used + 1) ≤ length there
       room-there = omega (arith, has-room, there-size)
 
-      pub adds : Octets s → (r : List ℕ) → recordLegal r ≡ true
+      pub adds : (r : List ℕ) → recordLegal r ≡ true
           → Says d (onTable (withRecord r) (kept d s)) s (recounted (used + 1) (put (startOf (header s) entriesArea) (put (width * used) (d ∷ r) there) s))
-      unfolding tableSound
-      adds o r q =
+      adds r q =
           let legal : RecordLegal r = record-facts r q in
-          let p : DeskLegal (kept d s) = kept-legal s e d h o in
+          let p : DeskLegal (kept d s) = kept-legal s e d h in
           entries-say s e d h (put (width * used) (d ∷ r) there) (used + 1) (onTable (withRecord r) (kept d s))
           (put-length (width * used) (d ∷ r) there ∙ there-size) (omega (arith, has-room))
-          (rw (append-owners used d r there (legal .size) room-there owners h, append-shares used d r there (legal .size) room-there shares few-there))
+          (append-owners used d r there (legal .size) room-there owners h)
           (λ c b ne. append-others used d r there (legal .size) room-there c ne ∙ ap (recordsOf c) (sym (in-use s)))
           (ap (deskIn (rowOf d s)) (append-own used d r there (legal .size) room-there ∙ ap (λ (es : List (List ℕ)). recordsOf d es ++ r ∷ []) (sym (in-use s)))
           ∙ recorded (rowOf d s) own r ∙ ap (onTable (withRecord r)) (sym (kept-is s e d h)))
@@ -170,9 +164,9 @@ module _ (s : List ℕ) (e : sound s ≡ true) where
       removed-says k left ys l y p =
           rw (back (put 0 (joined (without d k (entries n lent)))) ys y (put-length 0 _ lent), l, lent-is, u) (removes d h k p)
 
-      pub added-says : Octets s → (few : length (kept d s .table .held) < share) (r ys : List ℕ) → recordLegal r ≡ true → ys ≡ put (width * n) (d ∷ r) lent
+      pub added-says : (few : length (kept d s .table .held) < share) (r ys : List ℕ) → recordLegal r ≡ true → ys ≡ put (width * n) (d ∷ r) lent
           → Says d (onTable (withRecord r) (kept d s)) s (recounted (n + 1) (take at s ++ (ys ++ drop (at + width * entryCount - at) (drop at s))))
-      added-says o few r ys p y = rw (back (put (width * n) (d ∷ r)) ys y (put-length (width * n) (d ∷ r) lent), u) (adds d h few o r p)
+      added-says few r ys p y = rw (back (put (width * n) (d ∷ r)) ys y (put-length (width * n) (d ∷ r) lent), u) (adds d h few r p)
 
       -- the count m stands in the output already; the first m records come behind it
       pub counted-back : (m to : ℕ) (out one ys : List ℕ) → m ≤ length (kept d s .table .held) → to + 2 + recordWidth * m ≤ length out → one ≡ put to (octets 2 m) out

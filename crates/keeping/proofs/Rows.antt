@@ -7,13 +7,11 @@ use native.Mathlib.Omega.{arith}
 use lib.ListN.{length, take, drop, set, getD}
 use lib.Seq.{set-getD, set-set, getD-set-same}
 use Rattle.octets.specs.Parts.{part, put}
-use Rattle.octets.specs.Numbers.{Octets}
 use Rattle.octets.proofs.Numbers.{number-at}
-use Rattle.octets.proofs.Puts.{part-length}
 use Rattle.octets.proofs.Lent.{put-mid}
 use Rattle.octets.proofs.Rows.{rows-length}
 use Rattle.locks.specs.Locks.{mostLocks}
-use Rattle.table.specs.Entries.{desks, entryCount, entries, recordsOf}
+use Rattle.table.specs.Entries.{desks, entryCount, entries, recordsOf, ownersBelow}
 use Rattle.rules.specs.Desk.{Desk, freshDesk}
 use Rattle.rules.specs.Box.{deskAt}
 use Rattle.rules.specs.Legal.{deskLegal}
@@ -21,11 +19,11 @@ use Rattle.rules.proofs.Facts.{DeskLegal, desk-facts}
 use Rattle.store.specs.Layout.{storeSize, rowWidth, sizeOf, header, startOf, areas, rowAt, rowOf, recounted, rowsArea, entriesArea}
 use Rattle.store.specs.Rows.{field, countAt}
 use Rattle.store.specs.View.{deskIn, rowsIn, inUse, viewOf, view}
-use Rattle.store.specs.Sound.{sound, rowSound, tableSound}
-use Rattle.store.proofs.Boxes.{box-length}
-use Rattle.store.proofs.Changes.{Sound, sound-facts, sound-test}
-use Rattle.store.proofs.Anew.{row-length, row-sound, desk-is, Left, row-anew, entries-anew, row-inside as inside}
-use Rattle.store.proofs.LegalView.{RowSound, row-facts, legal-row, legal-at}
+use Rattle.store.specs.Sound.{sound}
+use Rattle.store.proofs.Contents.{box-length}
+use Rattle.store.proofs.Changes.{Flagged, Sound, sound-facts, sound-test}
+use Rattle.views.proofs.Anew.{row-length, row-flags, desk-is, Left, row-anew, entries-anew, row-inside as inside}
+use Rattle.views.proofs.LegalView.{legal-at, few-locks as locks-few}
 use Rattle.rows.specs.Change.{Fit, Change}
 use Rattle.keeping.specs.Kept.{kept, Says}
 
@@ -41,18 +39,15 @@ module _ (s : List ℕ) (e : sound s ≡ true) (d : ℕ) (h : d < desks) where
   pub kept-is : kept d s ≡ deskIn (rowOf d s) (recordsOf d (inUse s))
   kept-is = desk-is s facts d h
 
-  row-right : RowSound (length (recordsOf d (inUse s))) (rowOf d s)
-  row-right = row-facts _ (rowOf d s) (row-sound s facts d h)
-
   pub row-fit : Fit (rowOf d s)
-  row-fit = record { size = row-length s facts d h; login = row-right .login; mark = row-right .mark }
+  row-fit = record { size = row-length s facts d h; login = row-flags s facts d h .login; mark = row-flags s facts d h .mark }
 
   pub few-locks : getD (rowOf d s) countAt 0 ≤ mostLocks
   unfolding field
-  few-locks = rw number-at at (row-right .count)
+  few-locks = rw number-at at (locks-few s facts d h)
 
-  pub kept-legal : Octets s → DeskLegal (kept d s)
-  kept-legal o = legal-at s facts o d h
+  pub kept-legal : DeskLegal (kept d s)
+  kept-legal = legal-at s facts d
 
   -- ---- what the store then says
 
@@ -64,18 +59,17 @@ module _ (s : List ℕ) (e : sound s ≡ true) (d : ℕ) (h : d < desks) where
   pub row-changed : (f : Desk → Desk) (row : List ℕ) → Change f (rowOf d s) row → DeskLegal (f (kept d s)) → Says d (f (kept d s)) s (put (rowAt d s) row s)
   row-changed f row c p =
       let q : deskIn row (recordsOf d (inUse s)) ≡ f (kept d s) = c .means (recordsOf d (inUse s)) ∙ ap f (sym kept-is) in
-      let ok : rowSound (length (recordsOf d (inUse s))) row ≡ true = legal-row row (recordsOf d (inUse s)) (rw q p) (c .fit .login) (c .fit .mark) in
-      let left : Left d row (recordsOf d (inUse s)) s (put (rowAt d s) row s) = row-anew s facts d h row (c .fit .size) ok in
+      let flags : Flagged row = record { login = c .fit .login; mark = c .fit .mark } in
+      let left : Left d row (recordsOf d (inUse s)) s (put (rowAt d s) row s) = row-anew s facts d h row (c .fit .size) flags (rw q p) in
       record { still = sound-test _ (left .still); view-is = left .now-view ∙ ap (set (view s) d) q }
 
   -- the entries anew: those of other desks as they were
-  pub entries-say : (t : List ℕ) (n : ℕ) (desk′ : Desk) → (l : length t ≡ sizeOf entriesArea) → (few : n ≤ entryCount) → tableSound (entries n t) ≡ true
+  pub entries-say : (t : List ℕ) (n : ℕ) (desk′ : Desk) → (l : length t ≡ sizeOf entriesArea) → (few : n ≤ entryCount) → ownersBelow desks (entries n t) ≡ true
       → ((c : ℕ) → c < desks → (c ≡ d → ⊥) → recordsOf c (entries n t) ≡ recordsOf c (inUse s))
       → deskIn (rowOf d s) (recordsOf d (entries n t)) ≡ desk′ → DeskLegal desk′
       → Says d desk′ s (recounted n (put (startOf (header s) entriesArea) t s))
   entries-say t n desk′ l few ok others q p =
-      let fine : rowSound (length (recordsOf d (entries n t))) (rowOf d s) ≡ true = legal-row (rowOf d s) (recordsOf d (entries n t)) (rw q p) (row-fit .login) (row-fit .mark) in
-      let left : Left d (rowOf d s) (recordsOf d (entries n t)) s (recounted n (put (startOf (header s) entriesArea) t s)) = entries-anew s facts d h t l n few ok others fine in
+      let left : Left d (rowOf d s) (recordsOf d (entries n t)) s (recounted n (put (startOf (header s) entriesArea) t s)) = entries-anew s facts d h t l n few ok others (rw q p) in
       record { still = sound-test _ (left .still); view-is = left .now-view ∙ ap (set (view s) d) q }
 
   -- ---- the row, lent: at is where it begins

@@ -36,11 +36,10 @@ returns c =
     let r = p .before .before .before .before in
     let u = r .before .before in
     let a = u .before .before in
-    let k = a .before .before in
-    let z = k .before in
+    let z = a .before .before .before in
     rw (p .put16 .ensures)
     (added-says (z .args .s .now) (z .pre .0) (a .start .result) (u .used .result) (a .start .ensures .0) (u .used .ensures .0) (z .args .d) (z .pre .1)
-    (λ i. k .slice-known .given i .fits) (z .pre .2) (z .args .r) (r .append .last .0) (z .pre .3) (r .append .ensures))
+    (z .pre .2) (z .args .r) (r .append .last .0) (z .pre .3) (r .append .ensures))
 
 pub add-record-spec : {M : Type 1} → statement M
 add-record-spec =

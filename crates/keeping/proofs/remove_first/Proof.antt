@@ -1,5 +1,4 @@
 -- `keeping::remove_first` meets its contract: the entries are lent, fewer and back. Assumes nothing.
-use mathlib.Core.Path.{_∙_}
 use lib.Dec.{lit<}
 use native.Mathlib.Omega.{arith}
 use Rattle.keeping.proofs.Rows.{sound-size}
