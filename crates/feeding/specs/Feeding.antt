@@ -1,5 +1,5 @@
 -- A line that is read octet by octet in bounded memory: what is held of it, and that this is enough. Assumes nothing.
-use Prim.Native.Nat.{ℕ, _+_, _≤_, min}
+use Prim.Native.Nat.{ℕ, _+_, _*_, _≤_, min}
 use mathlib.Core.Path.{_≡_}
 use mathlib.Core.Bool.{Bool, true, cond, not, _||_}
 use mathlib.Core.List.{List, [], _∷_, _++_}
@@ -7,13 +7,15 @@ use mathlib.Core.Option.{Option, none, some}
 use lib.ListN.{length, take, set}
 use lib.Dec.{ltb}
 use Rattle.octets.specs.Tests.{allOf, first}
+use Rattle.frame.specs.Shape.{replyRoom}
 use Rattle.frame.specs.declared.Refusal.{Refusal}
 use Rattle.frame.specs.declared.Refusal.the-variants.{NoRoom}
 use Rattle.rules.specs.declared.Written.{Written}
 use Rattle.rules.specs.declared.Written.the-variants.{Octets, Refused}
-use Rattle.text.specs.declared.Begun.{Begun}
+use Rattle.feeding.specs.declared.Begun.{Begun}
 use Rattle.text.specs.Digits.{isHex, octetsOf}
-use Rattle.text.specs.Listing.{Line, frame, notRead, odd, otherLine, lineOf, Answered}
+use Rattle.text.specs.Listing.{Line, frame, notRead, odd, otherLine, lineOf, longestLine}
+use Rattle.feeding.specs.Answered.{Answered}
 
 -- the first octets of a text are held, as many as there is room for; of all of them is known whether they are more, whether their
 -- number is odd, and whether one is no hex digit
@@ -47,14 +49,14 @@ readOff at held =
     (cond (at .over) notRead (otherLine (take (at .held) held)))
     (cond (at .odd) notRead (frame (octetsOf (take (at .held) held))))
 
--- what was read is answered; and where a text was fed into a buffer of 1686 octets or more, its line is answered, however long it is
+-- so many octets of a line are enough, however long it is: the digits of a frame that is longer than any may be
+abbrev pub heldRoom : ℕ
+heldRoom = 2 * (replyRoom + 1)
+
+-- what was read is answered; and where a text was fed into a buffer that has so many octets, its line is answered, however long it is
 pub record ReadOff (at : Begun) (held s reply out : List ℕ) (n : ℕ) (s′ reply′ out′ : List ℕ) : Type 0 where
   pub read : Answered (readOff at held) s reply out n s′ reply′ out′
-  pub whole : (text : List ℕ) → Fed text at held → 1686 ≤ length held → Answered (lineOf text) s reply out n s′ reply′ out′
-
--- the longest line that is printed: the digits of a reply of 842 octets, and LF
-abbrev pub longestLine : ℕ
-longestLine = 1685
+  pub whole : (text : List ℕ) → Fed text at held → heldRoom ≤ length held → Answered (lineOf text) s reply out n s′ reply′ out′
 
 unfoldable pub listRefusals : List ℕ → List (Refusal × Bool)
 listRefusals out = (NoRoom, ltb (length out) longestLine) ∷ []

@@ -1,9 +1,9 @@
--- `text::spoilt` meets its contract. Assumes nothing.
+-- `feeding::spoilt` meets its contract. Assumes nothing.
 use mathlib.Core.Path.{ap}
 use mathlib.Core.Bool.{not}
 use borrow.Author.Needs.{needs}
-use Rattle.text.proofs.spoilt.Statement.{statement}
-use Rattle.text.proofs.spoilt.Tie as tie
+use Rattle.feeding.proofs.spoilt.Statement.{statement}
+use Rattle.feeding.proofs.spoilt.Tie as tie
 
 returns-2 : tie.Need-returns-2
 returns-2 c = rw (c .before .if1 .left) (ap not (c .is-hex .ensures))

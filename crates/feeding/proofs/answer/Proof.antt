@@ -1,8 +1,8 @@
--- `text::answer` meets its contract. Assumes nothing.
+-- `feeding::answer` meets its contract. Assumes nothing.
 use borrow.Author.Needs.{needs}
-use Rattle.text.proofs.Rooms.{no-room, with-room}
-use Rattle.text.proofs.answer.Statement.{statement}
-use Rattle.text.proofs.answer.Tie as tie
+use Rattle.feeding.proofs.Rooms.{no-room, with-room}
+use Rattle.feeding.proofs.answer.Statement.{statement}
+use Rattle.feeding.proofs.answer.Tie as tie
 
 returns : tie.Need-returns
 returns c = no-room _ _ _ _ _ (c .if1 .taken)

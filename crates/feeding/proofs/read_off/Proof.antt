@@ -1,16 +1,16 @@
--- `text::read_off` meets its contract. Assumes nothing.
+-- `feeding::read_off` meets its contract. Assumes nothing.
 use Prim.Native.Nat.{ℕ}
 use mathlib.Core.List.{List}
 use mathlib.Core.Path.{_≡_, refl, sym, ap, _∙_}
 use native.Mathlib.Omega.{arith}
 use borrow.Author.Needs.{needs}
 use lib.ListN.{take, length-take}
 use Rattle.text.specs.Digits.{octetsOf}
 use Rattle.text.specs.Listing.{frame, notRead, otherLine}
 use Rattle.text.proofs.Values.{take-least}
-use Rattle.text.proofs.Whole.{reads-long, reads-other, reads-odd, reads-frame, read-whole}
-use Rattle.text.proofs.read_off.Statement.{statement}
-use Rattle.text.proofs.read_off.Tie as tie
+use Rattle.feeding.proofs.Whole.{reads-long, reads-other, reads-odd, reads-frame, read-whole}
+use Rattle.feeding.proofs.read_off.Statement.{statement}
+use Rattle.feeding.proofs.read_off.Tie as tie
 
 -- what is handed on is all that is held
 all-held : (c : tie.After-least) → take (c .least .result) (c .before .before .before .before .before .args .held .now) ≡ take (c .before .before .before .before .before .args .state .held) (c .before .before .before .before .before .args .held .now)

@@ -1,20 +1,21 @@
--- `text::framed` meets its contract. Assumes nothing.
-use Prim.Native.Nat.{ℕ}
+-- `feeding::framed` meets its contract. Assumes nothing.
+use Prim.Native.Nat.{ℕ, _+_}
 use mathlib.Core.Path.{ap, _∙_}
 use native.Mathlib.Omega.{arith}
 use borrow.Author.Needs.{needs}
 use lib.ListN.{length, length-take, length-replicate}
 use Rattle.octets.proofs.Puts.{put-length}
+use Rattle.frame.specs.Shape.{replyRoom}
 use Rattle.depot.proofs.Short.{frame-short}
-use Rattle.text.proofs.Long.{handed-on}
+use Rattle.feeding.proofs.Long.{handed-on}
 use Rattle.text.proofs.Printing.{room-for}
-use Rattle.text.proofs.framed.Statement.{statement}
-use Rattle.text.proofs.framed.Tie as tie
+use Rattle.feeding.proofs.framed.Statement.{statement}
+use Rattle.feeding.proofs.framed.Tie as tie
 
 slice-aggregate-frame : tie.Need-slice-aggregate-frame
 slice-aggregate-frame c =
     let d = c .before .before .before .decode in
-    simp length-take (omega (arith, d .ensures .0, ap length (d .ensures .1) ∙ put-length _ _ _ ∙ length-replicate {A = ℕ} 843 0))
+    simp length-take (omega (arith, d .ensures .0, ap length (d .ensures .1) ∙ put-length _ _ _ ∙ length-replicate {A = ℕ} (replyRoom + 1) 0))
 
 -- a reply is short, so that there is room for its digits
 show-requires : tie.Need-show-requires
@@ -31,7 +32,7 @@ returns c =
     record {
       answers = (
         f .frame4 .result,
-        handed-on _ _ _ _ _ _ _ _ _ _ (length-replicate {A = ℕ} 843 0) (d .decode .ensures .0) (d .decode .ensures .1) (f .frame4 .ensures),
+        handed-on _ _ _ _ _ _ _ _ _ _ (length-replicate {A = ℕ} (replyRoom + 1) 0) (d .decode .ensures .0) (d .decode .ensures .1) (f .frame4 .ensures),
         c .before .before .show .ensures,
       );
     }

@@ -1,4 +1,4 @@
--- `text::sighted` meets its contract: the desk digit is decimal, and nine octets stand behind it. Assumes nothing.
+-- `feeding::sighted` meets its contract: the desk digit is decimal, and nine octets stand behind it. Assumes nothing.
 use Prim.Native.Nat.{ℕ, _≤_}
 use mathlib.Core.Path.{_≡_}
 use mathlib.Core.List.{[]}
@@ -6,11 +6,11 @@ use native.Mathlib.Omega.{arith}
 use borrow.Author.Needs.{needs}
 use lib.ListN.{length, getD, length-replicate}
 use Rattle.depot.proofs.Short.{sighting-short}
 use Rattle.text.proofs.Printing.{room-for}
 use Rattle.text.proofs.Values.{nine-octets, rest-of}
-use Rattle.text.proofs.Whole.{sighting-facts, sighting-answered}
-use Rattle.text.proofs.sighted.Statement.{statement}
-use Rattle.text.proofs.sighted.Tie as tie
+use Rattle.feeding.proofs.Whole.{sighting-facts, sighting-answered}
+use Rattle.feeding.proofs.sighted.Statement.{statement}
+use Rattle.feeding.proofs.sighted.Tie as tie
 
 facts : (z : tie.Start) → (length (z .args .s .now) ≡ 20) × (0x30 ≤ getD (z .args .s .now) 1 0) × (getD (z .args .s .now) 1 0 ≤ 0x39)
 facts z = sighting-facts (z .args .s .now) (z .pre .0)

@@ -16,9 +16,10 @@ use Rattle.rules.specs.Box.{Event}
 use Rattle.store.specs.View.{view}
 use Rattle.depot.specs.declared.Answer.{Answer}
 use Rattle.depot.proofs.Once.{once}
-use Rattle.text.specs.declared.Begun.{Begun}
-use Rattle.text.specs.Listing.{Line, frame, sighting, tick, notRead, printed, Printed, Answered}
-use Rattle.text.specs.Feeding.{readOff, ReadOff, longestLine, listRefusals, Lists, Listed}
+use Rattle.feeding.specs.declared.Begun.{Begun}
+use Rattle.text.specs.Listing.{longestLine, Line, frame, sighting, tick, notRead, printed, Printed}
+use Rattle.feeding.specs.Answered.{Answered}
+use Rattle.feeding.specs.Feeding.{readOff, ReadOff, listRefusals, Lists, Listed}
 
 module _ (at : Begun) (held s reply out : List ℕ) where
   pub no-room : length out < longestLine → Listed at held s reply out (Refused NoRoom) s reply out

@@ -1,8 +1,8 @@
--- `text::feed` meets its contract. Assumes nothing.
+-- `feeding::feed` meets its contract. Assumes nothing.
 use borrow.Author.Needs.{needs}
-use Rattle.text.proofs.Feeding.{feeds-held, feeds-over}
-use Rattle.text.proofs.feed.Statement.{statement}
-use Rattle.text.proofs.feed.Tie as tie
+use Rattle.feeding.proofs.Feeding.{feeds-held, feeds-over}
+use Rattle.feeding.proofs.feed.Statement.{statement}
+use Rattle.feeding.proofs.feed.Tie as tie
 
 returns : tie.Need-returns
 returns c = feeds-held _ _ _ _ (c .before .spoilt .ensures) (c .if1 .taken)

@@ -9,11 +9,11 @@ use borrow.Author.Tests.{lt-ltb, le-ltb}
 use lib.ListN.{length, take, set, length-append, length-set}
 use lib.Seq.{take-all, take-nil, take-suc-set, take-append-le, set-out}
 use Rattle.octets.specs.Tests.{allOf}
-use Rattle.text.specs.declared.Begun.{Begun}
+use Rattle.feeding.specs.declared.Begun.{Begun}
 use Rattle.text.specs.Digits.{isHex}
 use Rattle.text.specs.Listing.{odd}
-use Rattle.text.specs.Feeding.{Fed, Feeds, fedOne}
+use Rattle.feeding.specs.Feeding.{Fed, Feeds, fedOne}
 use Rattle.text.proofs.Values.{all-snoc}
 
 pub fed-none : (held : List ℕ) → Fed [] (record { held = 0; over = false; odd = false; bad = false }) held
 unfolding odd allOf

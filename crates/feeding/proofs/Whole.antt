@@ -13,15 +13,17 @@ use Rattle.octets.specs.Tests.{allOf}
 use Rattle.octets.specs.Parts.{part}
 use Rattle.octets.specs.Numbers.{number}
 use Rattle.octets.proofs.Tests.{both}
+use Rattle.frame.specs.Shape.{replyRoom}
 use Rattle.rules.specs.Box.{Event}
 use Rattle.depot.specs.declared.Answer.{Answer}
 use Rattle.depot.specs.Called.{Called}
-use Rattle.text.specs.declared.Begun.{Begun}
+use Rattle.feeding.specs.declared.Begun.{Begun}
 use Rattle.text.specs.Digits.{decimal, isHex, octetsOf}
-use Rattle.text.specs.Listing.{Line, frame, tick, notRead, odd, isTick, isSighting, sightingOf, otherLine, lineOf, Printed, printed, Answered}
-use Rattle.text.specs.Feeding.{Fed, readOff, ReadOff}
+use Rattle.text.specs.Listing.{Line, frame, tick, notRead, odd, isTick, isSighting, sightingOf, otherLine, lineOf, Printed, printed}
+use Rattle.feeding.specs.Answered.{Answered}
+use Rattle.feeding.specs.Feeding.{Fed, readOff, ReadOff, heldRoom}
 use Rattle.text.proofs.Values.{bounds, octets-length}
-use Rattle.text.proofs.Long.{long-called}
+use Rattle.feeding.proofs.Long.{long-called}
 
 -- ---- the line that is read off, as the code finds out
 
@@ -99,7 +101,7 @@ module _ (s reply out : List ℕ) (n : ℕ) (s′ reply′ out′ : List ℕ) wh
   abbrev Ends : Line → Type 0
   Ends l = Answered l s reply out n s′ reply′ out′
 
-  long-frames : (f g : List ℕ) → 842 < length f → 842 < length g → Ends (frame f) → Ends (frame g)
+  long-frames : (f g : List ℕ) → replyRoom < length f → replyRoom < length g → Ends (frame f) → Ends (frame g)
   long-frames f g h l q =
       record {
         answers = (
@@ -109,7 +111,7 @@ module _ (s reply out : List ℕ) (n : ℕ) (s′ reply′ out′ : List ℕ) wh
         );
       }
 
-  module _ (text : List ℕ) (at : Begun) (held : List ℕ) (f : Fed text at held) (room : 1686 ≤ length held) where
+  module _ (text : List ℕ) (at : Begun) (held : List ℕ) (f : Fed text at held) (room : heldRoom ≤ length held) where
     -- the whole text is held
     all-held : length text ≤ length held → take (at .held) held ≡ text
     all-held h = f .held-is ∙ take-all (length held) text h
