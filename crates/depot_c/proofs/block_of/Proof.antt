@@ -1,12 +1,12 @@
--- `depot_c::fourteen` meets its contract. Assumes nothing.
+-- `depot_c::block_of` meets its contract. Assumes nothing.
 use mathlib.Core.Path.{_∙_}
 use Rattle.octets.proofs.Puts.{put-whole}
 use borrow.Author.Needs.{needs}
-use Rattle.depot_c.proofs.fourteen.Statement.{statement}
-use Rattle.depot_c.proofs.fourteen.Tie as tie
+use Rattle.depot_c.proofs.block_of.Statement.{statement}
+use Rattle.depot_c.proofs.block_of.Tie as tie
 
 returns : tie.Need-returns
 returns c = c .before .copy-to .ensures ∙ put-whole _ _ (c .before .before .before .before .pre)
 
-pub fourteen-spec : {M : Type 1} → statement M
-fourteen-spec = tie.close (tie.spec (λ c. search needs) (λ c κs. search needs) returns)
+pub block-of-spec : {M : Type 1} → statement M
+block-of-spec = tie.close (tie.spec (λ c. search needs) (λ c κs. search needs) returns)

@@ -19,7 +19,7 @@ returns-2 c =
     let l = c .before .before .before in
     let f = l .before .before in
     past-length _ _ _ _ _ _ _ (f .before .if1 .left)
-    (record { answer = l .lines .result; code = c .written-code2 .ensures; wrote = rw (f .fourteen .ensures) at (l .lines .ensures) })
+    (record { answer = l .lines .result; code = c .written-code2 .ensures; wrote = rw (f .block-of .ensures) at (l .lines .ensures) })
 
 pub depot-lines-spec : {M : Type 1} → statement M
 depot-lines-spec =
