@@ -95,7 +95,7 @@ pub(crate) fn seen(code: u64) -> Result<Seen, Refusal> {
     match code {
         RECORDED => Ok(Seen::Recorded),
         LOST => Ok(Seen::Lost),
-        IGNORED => Ok(Seen::Ignored),
+        _ if code >> 16 == IGNORED >> 16 => Ok(Seen::Ignored),
         _ => Err(Refusal::of(code).unwrap_or_else(|| unnamed(code))),
     }
 }
