@@ -29,8 +29,8 @@ static void stop_if_refused(const char *what, uint64_t code)
     }
 }
 
-/* Asks the desk: the request is made, handed to the box, and the reply is read. bytes are 14 for a write, and else not looked at. */
-static struct told ask(const char *what, uint8_t control, uint64_t a, const uint8_t *bytes, size_t bytes_len)
+/* Asks the desk: the request is made, handed to the box, and the reply is read. bytes are a block for a write, and else not looked at. */
+static struct told ask(const char *what, uint64_t control, uint64_t a, const uint8_t *bytes, size_t bytes_len)
 {
     uint8_t frame[DEPOT_REPLY_SIZE];
     uint64_t made = depot_make(DEPOT_ADVANCED, DESK, control, a, 0, 0, bytes, bytes_len, frame, sizeof frame);

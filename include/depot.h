@@ -8,7 +8,7 @@
  * What the caller owes, and no proof can give: a pointer is never NULL and points to as many octets as the length behind it
  * says (a length of 0 is fine, with a pointer to anything), and an output overlaps no other buffer of the call.
  *
- * There is no hidden state: the box is the store, 16384 octets that the caller keeps. Two stores are two boxes.
+ * There is no hidden state: the box is the store, DEPOT_STORE_SIZE octets that the caller keeps. Two stores are two boxes.
  */
 #ifndef DEPOT_H
 #define DEPOT_H
@@ -30,11 +30,32 @@ extern "C" {
 
 /* ---- answers */
 
-#define DEPOT_DONE 0            /* done, and there is nothing to say */
+/*
+ * One number of 64 bits, and its range says what it is. No two ranges share a number (proved: crates/depot_c, Ranges).
+ *
+ *   from                     what
+ *   0                        done, and there is nothing to say
+ *   1 to 63                  refused, by the number in the paper
+ *   64, 65                   a sighting: recorded, lost
+ *   2^16 + ticks             a sighting: ignored. Today ticks is 0: it is kept for the ticks that the lock has left
+ *   2^32 + s * 2^24 + a * 2^16 + n
+ *                            what the reader found: status s, data of n octets from place a on
+ *   2^63 + n                 n octets stand at the start of the output
+ * Set aside, so that no number above has to move; no call gives these yet:
+ *   2 * 2^32 + q * 2^8 + p   a question: q is the number of the sighting, p the place of the latest record, from 1; 0 for none
+ *   3 * 2^32 + p             a lookup: the place of the record; 0 for none
+ *   4 * 2^32                 the checker: all agrees
+ *   5 * 2^32 + e * 2^16 + o  the checker: entry e differs at octet o
+ *   6 * 2^32 + o             the checker: refusal 9, at octet o of the file
+ *   2^48 + t                 the receiver waits; in this and the next two, t is how many octets it took, below 2^32
+ *   2 * 2^48 + n * 2^32 + t  the receiver has a frame of n octets
+ *   3 * 2^48 + r * 2^32 + t  the receiver dropped what was begun, with refusal r
+ */
+#define DEPOT_DONE 0
 
-/* a refusal is below 16, by its number in the paper */
+#define DEPOT_REFUSED(code) ((code) >= 1 && (code) <= 63)
 #define DEPOT_UNSOUND 1         /* the store has the wrong size, or is not sound */
-#define DEPOT_SMALL_BUFFER 2    /* the reply buffer is shorter than 842 */
+#define DEPOT_SMALL_BUFFER 2    /* the reply buffer is shorter than DEPOT_REPLY_SIZE */
 #define DEPOT_WRONG_LENGTH 3    /* a frame shorter or longer than its kind allows, or its length field differs */
 #define DEPOT_WRONG_CHECK 4     /* the CRC is wrong */
 #define DEPOT_NO_DESK 5         /* a desk above 7 */
@@ -42,19 +63,14 @@ extern "C" {
 #define DEPOT_NO_ROOM 7         /* the output has too little room */
 #define DEPOT_NOT_THE_REPLY 8   /* a sound frame that does not answer the request */
 
-/* what a sighting came to */
-#define DEPOT_IGNORED 16        /* the UID is locked at this desk */
-#define DEPOT_LOST 17           /* the desk holds 64 records; the overflow mark is set */
-#define DEPOT_RECORDED 18
+#define DEPOT_RECORDED 64
+#define DEPOT_LOST 65           /* the desk holds 64 records; the overflow mark is set */
+#define DEPOT_IGNORED(code) ((code) >> 16 == 1) /* the UID is locked at this desk */
 
-#define DEPOT_REFUSED(code) ((code) >= 1 && (code) <= 8)
+#define DEPOT_WRITTEN(code) ((code) >> 63 == 1)
+#define DEPOT_LENGTH(code) ((size_t)((code) & UINT64_C(0x7FFFFFFFFFFFFFFF)))
 
-/* 256 + n: n octets stand at the start of the output */
-#define DEPOT_WRITTEN(code) ((code) >= 256)
-#define DEPOT_LENGTH(code) ((size_t)((code) - 256))
-
-/* what the reader tells: 2^32 + status * 2^24 + start * 2^16 + len */
-#define DEPOT_READ(code) ((code) >= UINT64_C(4294967296))
+#define DEPOT_READ(code) ((code) >> 32 == 1)
 #define DEPOT_STATUS(code) ((uint8_t)((code) >> 24 & 255))
 #define DEPOT_START(code) ((size_t)((code) >> 16 & 255))
 #define DEPOT_DATA_LENGTH(code) ((size_t)((code) & 65535))
@@ -68,7 +84,7 @@ extern "C" {
 #define DEPOT_RESET 0x63
 #define DEPOT_SYSTEM_RESET 0x64
 #define DEPOT_READ_BLOCK 0x80     /* a: CFG-ADR */
-#define DEPOT_WRITE_BLOCK 0x81    /* a: CFG-ADR; bytes: the fourteen */
+#define DEPOT_WRITE_BLOCK 0x81    /* a: CFG-ADR; bytes: the block */
 #define DEPOT_SAVE_BLOCKS 0x82    /* a: CFG-ADR */
 #define DEPOT_RESTORE_BLOCKS 0x83 /* a: CFG-ADR */
 #define DEPOT_SET_TIMER 0x85      /* a: hour; b: minute; c: milliseconds */
@@ -86,14 +102,14 @@ extern "C" {
 
 /*
  * Makes a fresh store: defaults in both memories of each desk, nobody logged in, no records, no locks, timer 0.
- * Answers: DEPOT_DONE; DEPOT_UNSOUND where store_len is not 16384.
+ * Answers: DEPOT_DONE; DEPOT_UNSOUND where store_len is not DEPOT_STORE_SIZE.
  * Afterwards: done, every octet of the store is that of a fresh one, whatever stood there; refused, all is as before.
  */
 uint64_t depot_fresh(uint8_t *store, size_t store_len);
 
 /*
  * A frame arrives on the line, and the desk that it names answers.
- * Answers: 256 + n, a reply of n octets; refusals 1, 2, 3, 4, 5, the least that fits.
+ * Answers: DEPOT_WRITTEN, a reply of DEPOT_LENGTH (n) octets; refusals 1, 2, 3, 4, 5, the least that fits.
  * Afterwards: answered, the reply stands in out[0] to out[n - 1], the octets behind it are as before, and the store is sound
  * and holds what the command did; refused, store and output are as before.
  */
@@ -102,7 +118,7 @@ uint64_t depot_frame(uint8_t *store, size_t store_len, const uint8_t *frame, siz
 /*
  * A tag is sighted at a desk by the antennas of a mask from 1 to 255. Its UID is eight octets as one number, the first of them most
  * significant.
- * Answers: DEPOT_IGNORED, DEPOT_LOST, DEPOT_RECORDED; refusals 1, 5, 6 (a mask of 0 or above 255), the least that fits.
+ * Answers: DEPOT_IGNORED(code), DEPOT_LOST, DEPOT_RECORDED; refusals 1, 5, 6 (a mask of 0 or above 255), the least that fits.
  * Afterwards: the store is sound and holds what the sighting did; refused, it is as before.
  */
 uint64_t depot_sighting(uint8_t *store, size_t store_len, uint64_t desk, uint64_t uid, uint64_t mask);
@@ -119,14 +135,14 @@ uint64_t depot_tick(uint8_t *store, size_t store_len);
 /*
  * Makes a request: the frame that asks a desk for what control, a, b and c say. Numbers that a command does not have are not
  * looked at, and bytes only by DEPOT_WRITE_BLOCK (elsewhere any length is fine, 0 too).
- * Answers: 256 + n, a frame of n octets; refusals, the least that fits:
+ * Answers: DEPOT_WRITTEN, a frame of DEPOT_LENGTH octets; refusals, the least that fits:
  *   5  a desk above 7, whatever the rest is
- *   6  a kind that is neither 0 nor 1; a control byte that is none of the fourteen; a write whose bytes_len is not 14;
+ *   6  a kind that is neither 0 nor 1; a control that is none of the fourteen; a write whose bytes_len is not DEPOT_BLOCK_SIZE;
  *      a number that its field can't hold, or that a logged-in desk would answer 0x11
  *   7  the frame does not fit in out_len octets
  * Afterwards: made, the frame stands at the start of out and the octets behind it are as before; refused, out is as before.
  */
-uint64_t depot_make(uint64_t kind, uint64_t desk, uint8_t control, uint64_t a, uint64_t b, uint64_t c, const uint8_t *bytes, size_t bytes_len, uint8_t *out, size_t out_len);
+uint64_t depot_make(uint64_t kind, uint64_t desk, uint64_t control, uint64_t a, uint64_t b, uint64_t c, const uint8_t *bytes, size_t bytes_len, uint8_t *out, size_t out_len);
 
 /*
  * Reads the reply to a request, which is given by the same arguments as to depot_make.
@@ -135,14 +151,14 @@ uint64_t depot_make(uint64_t kind, uint64_t desk, uint8_t control, uint64_t a, u
  * that request with that status and data length, where a record count does not fit the length, and to what is no request.
  * Nothing is written.
  */
-uint64_t depot_read(uint64_t kind, uint64_t desk, uint8_t control, uint64_t a, uint64_t b, uint64_t c, const uint8_t *bytes, size_t bytes_len, const uint8_t *reply, size_t reply_len);
+uint64_t depot_read(uint64_t kind, uint64_t desk, uint64_t control, uint64_t a, uint64_t b, uint64_t c, const uint8_t *bytes, size_t bytes_len, const uint8_t *reply, size_t reply_len);
 
 /* ---- scan lines */
 
 /*
  * Writes the line of a record as block 7 shapes it.
- * Answers: 256 + n, a line of n octets; refusals, the least that fits:
- *   6  block_len is not 14 or record_len is not 13; the block breaks the rules of block 7
+ * Answers: DEPOT_WRITTEN, a line of DEPOT_LENGTH octets; refusals, the least that fits:
+ *   6  block_len is not DEPOT_BLOCK_SIZE or record_len is not DEPOT_RECORD_SIZE; the block breaks the rules of block 7
  *   7  the line does not fit in out_len octets
  * Afterwards: written, the line stands at the start of out and the octets behind it are as before; refused, out is as before.
  */

@@ -1,12 +1,14 @@
 //! What the calls answer, and how a code is read.
 use std::fmt;
 
+use crate::numbers::{length, DONE, IGNORED, LOST, RECORDED, TOLD};
+
 /// Why a call is refused, by the paper's number. A refused call leaves every octet that it was lent as it was.
 #[derive(Clone, Copy, Debug, PartialEq, Eq, Hash)]
 pub enum Refusal {
     /// The store has the wrong size, or is not sound.
     Unsound = 1,
-    /// The reply buffer is shorter than 842.
+    /// The reply buffer is shorter than [`REPLY_SIZE`](crate::REPLY_SIZE).
     SmallBuffer = 2,
     /// A frame is shorter or longer than its kind allows, or its length field differs from its length.
     WrongLength = 3,
@@ -52,7 +54,7 @@ impl fmt::Display for Refusal {
     fn fmt(&self, f: &mut fmt::Formatter) -> fmt::Result {
         let why = match self {
             Refusal::Unsound => "the store has the wrong size or is not sound",
-            Refusal::SmallBuffer => "the reply buffer is shorter than 842",
+            Refusal::SmallBuffer => "the reply buffer is shorter than the longest frame",
             Refusal::WrongLength => "the frame has a wrong length",
             Refusal::WrongCheck => "the frame's CRC is wrong",
             Refusal::NoDesk => "there is no desk above 7",
@@ -83,7 +85,7 @@ pub(crate) fn unnamed(code: u64) -> ! {
 
 /// Nothing to say, or a refusal.
 pub(crate) fn done(code: u64) -> Result<(), Refusal> {
-    if code == 0 {
+    if code == DONE {
         return Ok(());
     }
     Err(Refusal::of(code).unwrap_or_else(|| unnamed(code)))
@@ -91,19 +93,19 @@ pub(crate) fn done(code: u64) -> Result<(), Refusal> {
 
 pub(crate) fn seen(code: u64) -> Result<Seen, Refusal> {
     match code {
-        16 => Ok(Seen::Ignored),
-        17 => Ok(Seen::Lost),
-        18 => Ok(Seen::Recorded),
+        RECORDED => Ok(Seen::Recorded),
+        LOST => Ok(Seen::Lost),
+        _ if code >> 16 == IGNORED >> 16 => Ok(Seen::Ignored),
         _ => Err(Refusal::of(code).unwrap_or_else(|| unnamed(code))),
     }
 }
 
 /// The octets at the start of the output, or a refusal.
 pub(crate) fn written(code: u64, out: &[u8]) -> Result<&[u8], Refusal> {
-    if code < 256 {
-        return Err(Refusal::of(code).unwrap_or_else(|| unnamed(code)));
+    match length(code) {
+        Some(n) => Ok(&out[..n]),
+        None => Err(Refusal::of(code).unwrap_or_else(|| unnamed(code))),
     }
-    Ok(&out[..(code - 256) as usize])
 }
 
 /// What a reply says: its status, and its data where they stand in the reply.
@@ -114,7 +116,7 @@ pub struct Told<'a> {
 }
 
 pub(crate) fn told(code: u64, reply: &[u8]) -> Result<Told<'_>, Refusal> {
-    if code < 1 << 32 {
+    if code < TOLD {
         return Err(Refusal::of(code).unwrap_or_else(|| unnamed(code)));
     }
     let start = (code >> 16 & 255) as usize;

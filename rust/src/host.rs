@@ -1,14 +1,14 @@
 //! The host side: requests are made, replies are read.
 use crate::answer::{told, written, Refusal, Told};
 use crate::raw::{self, Asked};
-use crate::Desk;
+use crate::{Block, Desk};
 
 /// The two kinds of frame.
 #[derive(Clone, Copy, Debug, PartialEq, Eq, Hash)]
 pub enum Kind {
     /// At most 255 octets.
     Standard,
-    /// At most 842 octets.
+    /// At most [`REPLY_SIZE`](crate::REPLY_SIZE) octets.
     Advanced,
 }
 
@@ -19,7 +19,7 @@ pub enum Ask {
     Reset,
     SystemReset,
     ReadBlock(u8),
-    WriteBlock(u8, [u8; 14]),
+    WriteBlock(u8, Block),
     SaveBlocks(u8),
     RestoreBlocks(u8),
     SetTimer { hour: u8, minute: u8, milliseconds: u16 },
@@ -39,7 +39,7 @@ pub const ALL_BLOCKS: u8 = 0x40;
 
 impl Ask {
     /// The control byte and three numbers.
-    fn numbers(&self) -> (u8, u64, u64, u64) {
+    fn numbers(&self) -> (u64, u64, u64, u64) {
         match *self {
             Ask::Baud => (0x52, 0, 0, 0),
             Ask::Reset => (0x63, 0, 0, 0),
@@ -71,7 +71,7 @@ impl Ask {
 /// ```
 /// use depot::{Ask, Desk, Kind, Refusal, Request};
 /// let reset = Request { kind: Kind::Standard, desk: Desk::ALL[0], ask: Ask::SystemReset };
-/// let mut out = [0; 842];
+/// let mut out = [0; depot::REPLY_SIZE];
 /// assert_eq!(reset.make(&mut out), Ok(&[0x05, 0x00, 0x64, 0xAC, 0x25][..]));
 /// let reply = [0x06, 0x00, 0x64, 0x00, 0x8E, 0x4A];
 /// assert_eq!(reset.read(&reply).unwrap().status, 0x00);

@@ -24,6 +24,7 @@
 mod answer;
 mod host;
 mod lines;
+pub mod numbers;
 pub mod raw;
 mod store;
 mod sys;
@@ -31,4 +32,5 @@ mod sys;
 pub use answer::{Refusal, Seen, Told};
 pub use host::{Ask, Kind, Request, ALL_BLOCKS, EEPROM};
 pub use lines::{line, lines, records, Block, Record, DEFAULT_BLOCK_7};
-pub use store::{Desk, Store, REPLY_SIZE, STORE_SIZE};
+pub use numbers::{REPLY_SIZE, STORE_SIZE};
+pub use store::{Desk, Store};

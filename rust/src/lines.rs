@@ -1,16 +1,17 @@
 //! Records as a reply carries them, and their scan lines.
 use crate::answer::{written, Refusal};
+use crate::numbers::{BLOCK_SIZE, RECORD_SIZE};
 use crate::raw;
 
 /// The bytes of a configuration block.
-pub type Block = [u8; 14];
+pub type Block = [u8; BLOCK_SIZE];
 
 /// The default block 7: capital hex, a comma, CR and LF.
 pub const DEFAULT_BLOCK_7: Block = [0x02, 0x20, 0x2C, 0x01, 0, 0, 0, 0, 0, 0, 0, 0, 0, 0];
 
 /// A record: UID, timer, antenna mask.
 #[derive(Clone, Copy, Debug, PartialEq, Eq, Hash)]
-pub struct Record(pub [u8; 13]);
+pub struct Record(pub [u8; RECORD_SIZE]);
 
 impl Record {
     pub fn uid(&self) -> u64 {
@@ -36,7 +37,7 @@ impl Record {
 
 /// The records in the data of a reply to `ReadRecords`, the oldest first.
 pub fn records(data: &[u8]) -> impl Iterator<Item = Record> + '_ {
-    data.get(2..).unwrap_or(&[]).chunks_exact(13).map(|r| Record(r.try_into().expect("chunks of 13")))
+    data.get(2..).unwrap_or(&[]).chunks_exact(RECORD_SIZE).map(|r| Record(r.try_into().expect("chunks of a record's octets")))
 }
 
 /// Writes the line of a record at the start of the output, as block 7 shapes it; the octets behind it stay.

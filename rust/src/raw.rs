@@ -26,11 +26,11 @@ pub struct Asked<'a> {
     /// 0 standard, 1 advanced.
     pub kind: u64,
     pub desk: u64,
-    pub control: u8,
+    pub control: u64,
     pub a: u64,
     pub b: u64,
     pub c: u64,
-    /// The fourteen bytes of a write.
+    /// The block of a write.
     pub bytes: &'a [u8],
 }
 

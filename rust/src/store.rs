@@ -1,16 +1,11 @@
-//! The box: its whole state is a store of 16384 octets.
+//! The box: its whole state is a store of [`STORE_SIZE`] octets.
 use std::fmt;
 use std::num::NonZeroU8;
 use std::ops::DerefMut;
 
 use crate::answer::{done, seen, unnamed, written, Refusal, Seen};
+use crate::numbers::{DESKS, REPLY_SIZE, STORE_SIZE};
 use crate::raw;
-
-/// The octets of a store.
-pub const STORE_SIZE: usize = 16384;
-
-/// The octets of the longest frame, and so of the buffer for a reply.
-pub const REPLY_SIZE: usize = 842;
 
 /// A desk, from 0 to 7.
 ///
@@ -23,7 +18,7 @@ pub const REPLY_SIZE: usize = 842;
 pub struct Desk(u8);
 
 impl Desk {
-    pub const ALL: [Desk; 8] = [Desk(0), Desk(1), Desk(2), Desk(3), Desk(4), Desk(5), Desk(6), Desk(7)];
+    pub const ALL: [Desk; DESKS as usize] = [Desk(0), Desk(1), Desk(2), Desk(3), Desk(4), Desk(5), Desk(6), Desk(7)];
 
     pub fn new(number: u8) -> Option<Desk> {
         Desk::ALL.get(number as usize).copied()
@@ -69,7 +64,7 @@ impl Store<Box<[u8]>> {
 }
 
 impl<B: DerefMut<Target = [u8]>> Store<B> {
-    /// Makes a fresh box of any octets. Refused: `Unsound` where they are not 16384, and they are then as before.
+    /// Makes a fresh box of any octets. Refused: `Unsound` where they are not [`STORE_SIZE`], and they are then as before.
     ///
     /// ```
     /// let mut octets = [7; depot::STORE_SIZE];

@@ -12,7 +12,7 @@ extern "C" {
     pub fn depot_make(
         kind: u64,
         desk: u64,
-        control: u8,
+        control: u64,
         a: u64,
         b: u64,
         c: u64,
@@ -25,7 +25,7 @@ extern "C" {
     pub fn depot_read(
         kind: u64,
         desk: u64,
-        control: u8,
+        control: u64,
         a: u64,
         b: u64,
         c: u64,

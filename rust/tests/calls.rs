@@ -1,5 +1,6 @@
 //! Each call with each of its answers, over any numbers and octets. A refused call leaves every lent octet as it was, and a call
 //! that writes leaves the octets behind what it wrote: the outputs are longer than they need to be, and filled with a guard.
+use depot::numbers::{length, BLOCK_SIZE, DONE, IGNORED, LOST, RECORDED, RECORD_SIZE, TOLD, WRITTEN};
 use depot::raw::{self, Asked};
 use depot::{Record, Refusal, Store, DEFAULT_BLOCK_7, REPLY_SIZE, STORE_SIZE};
 
@@ -7,7 +8,7 @@ const GUARD: u8 = 0xA5;
 const RESET: [u8; 5] = [0x05, 0x00, 0x64, 0xAC, 0x25];
 const RESET_REPLY: [u8; 6] = [0x06, 0x00, 0x64, 0x00, 0x8E, 0x4A];
 const UID: u64 = 0xE007_0000_0164_5E37;
-const RECORD: [u8; 13] = [0xE0, 0x07, 0, 0, 0x01, 0x64, 0x5E, 0x37, 0x01, 0x02, 0x03, 0xE8, 1];
+const RECORD: [u8; RECORD_SIZE] = [0xE0, 0x07, 0, 0, 0x01, 0x64, 0x5E, 0x37, 0x01, 0x02, 0x03, 0xE8, 1];
 const LINE: &[u8] = b"E007000001645E37,010203E8\r\n";
 
 fn fresh() -> Vec<u8> {
@@ -25,8 +26,7 @@ fn refused(code: u64, wanted: Refusal) {
 
 /// The octets that a call wrote at the start of a guarded output.
 fn wrote(code: u64, out: &[u8]) -> &[u8] {
-    assert!(code >= 256, "code {code}");
-    let n = (code - 256) as usize;
+    let n = length(code).unwrap_or_else(|| panic!("code {code}"));
     assert!(out[n..].iter().all(|o| *o == GUARD), "the octets behind stay");
     &out[..n]
 }
@@ -48,7 +48,7 @@ fn reset() -> Asked<'static> {
 #[test]
 fn fresh_is_of_any_octets() {
     let mut s = guard(STORE_SIZE);
-    assert_eq!(raw::fresh(&mut s), 0);
+    assert_eq!(raw::fresh(&mut s), DONE);
     assert_eq!(s, fresh());
 }
 
@@ -85,13 +85,13 @@ fn frame_refuses() {
 #[test]
 fn sighting_is_recorded_ignored_lost() {
     let mut s = fresh();
-    assert_eq!(raw::sighting(&mut s, 7, UID, 255), 18);
-    assert_eq!(raw::sighting(&mut s, 7, UID, 255), 16);
+    assert_eq!(raw::sighting(&mut s, 7, UID, 255), RECORDED);
+    assert_eq!(raw::sighting(&mut s, 7, UID, 255), IGNORED);
     for i in 1..64 {
-        assert_eq!(raw::sighting(&mut s, 7, i, 1), 18);
+        assert_eq!(raw::sighting(&mut s, 7, i, 1), RECORDED);
     }
-    assert_eq!(raw::sighting(&mut s, 7, 64, 1), 17);
-    assert_eq!(raw::sighting(&mut s, 6, 64, 1), 18);
+    assert_eq!(raw::sighting(&mut s, 7, 64, 1), LOST);
+    assert_eq!(raw::sighting(&mut s, 6, 64, 1), RECORDED);
 }
 
 #[test]
@@ -108,13 +108,13 @@ fn sighting_refuses() {
 #[test]
 fn tick_ends_a_lock() {
     let mut s = fresh();
-    assert_eq!(raw::sighting(&mut s, 0, UID, 1), 18);
+    assert_eq!(raw::sighting(&mut s, 0, UID, 1), RECORDED);
     for _ in 0..54 {
-        assert_eq!(raw::tick(&mut s), 0);
+        assert_eq!(raw::tick(&mut s), DONE);
     }
-    assert_eq!(raw::sighting(&mut s, 0, UID, 1), 16);
-    assert_eq!(raw::tick(&mut s), 0);
-    assert_eq!(raw::sighting(&mut s, 0, UID, 1), 18);
+    assert_eq!(raw::sighting(&mut s, 0, UID, 1), IGNORED);
+    assert_eq!(raw::tick(&mut s), DONE);
+    assert_eq!(raw::sighting(&mut s, 0, UID, 1), RECORDED);
     box_refuses(&guard(STORE_SIZE), 0, Refusal::Unsound, |s, _| raw::tick(s));
 }
 
@@ -137,10 +137,10 @@ fn make_makes_each_command() {
     assert_eq!(made(Asked { kind: 1, ..q }), [0x02, 0x00, 0x07, 0x00, 0x64, 0x27, 0x8F]);
     for (control, size) in [(0x52, 1), (0x63, 0), (0x86, 0), (0xA0, 4), (0x31, 0), (0x32, 0), (0x33, 0)] {
         let f = made(Asked { control, ..q });
-        assert_eq!((f.len(), f[2]), (5 + size, control));
+        assert_eq!((f.len(), u64::from(f[2])), (5 + size, control));
     }
     for control in [0x80, 0x82, 0x83, 0x22] {
-        assert_eq!(made(Asked { control, a: 5, ..q })[2], control);
+        assert_eq!(u64::from(made(Asked { control, a: 5, ..q })[2]), control);
     }
     assert_eq!(made(Asked { control: 0x85, a: 23, b: 59, c: 59999, ..q })[3..7], [23, 59, 0xEA, 0x5F]);
     let bytes = b"fourteen bytes";
@@ -156,33 +156,35 @@ fn make_refuses_in_rising_number() {
     make_refuses(Asked { kind: 2, ..q }, REPLY_SIZE, Refusal::OutOfRange);
     make_refuses(Asked { kind: 256, ..q }, REPLY_SIZE, Refusal::OutOfRange);
     let known = [0x52, 0x63, 0x64, 0x80, 0x81, 0x82, 0x83, 0x85, 0x86, 0xA0, 0x22, 0x31, 0x32, 0x33];
-    for control in (0..=255).filter(|c| !known.contains(c)) {
+    // A number above 255 is no control byte, whatever its last octet is.
+    let above = known.map(|c| c + 256).into_iter().chain([256, u64::MAX]);
+    for control in (0..=255).filter(|c| !known.contains(c)).chain(above) {
         make_refuses(Asked { control, ..q }, REPLY_SIZE, Refusal::OutOfRange);
     }
-    for bytes in [&[][..], &[0; 13], &[0; 15]] {
+    for bytes in [&[][..], &[0; BLOCK_SIZE - 1], &[0; BLOCK_SIZE + 1]] {
         make_refuses(Asked { control: 0x81, a: 3, bytes, ..q }, REPLY_SIZE, Refusal::OutOfRange);
     }
-    make_refuses(Asked { control: 0x81, a: 7, bytes: &[1; 14], ..q }, REPLY_SIZE, Refusal::OutOfRange);
+    make_refuses(Asked { control: 0x81, a: 7, bytes: &[1; BLOCK_SIZE], ..q }, REPLY_SIZE, Refusal::OutOfRange);
     make_refuses(Asked { control: 0x52, a: 1, ..q }, REPLY_SIZE, Refusal::OutOfRange);
     make_refuses(Asked { control: 0x85, a: 59, b: 23, ..q }, REPLY_SIZE, Refusal::OutOfRange);
     make_refuses(Asked { control: 0xA0, a: 1 << 32, ..q }, REPLY_SIZE, Refusal::OutOfRange);
     make_refuses(q, 4, Refusal::NoRoom);
-    assert_eq!(raw::make(q, &mut guard(5)), 256 + 5);
+    assert_eq!(raw::make(q, &mut guard(5)), WRITTEN + 5);
 }
 
 #[test]
 fn read_tells_status_and_data() {
-    assert_eq!(raw::read(reset(), &RESET_REPLY), (1 << 32) + (4 << 16));
+    assert_eq!(raw::read(reset(), &RESET_REPLY), TOLD + (4 << 16));
     let q = Asked { kind: 1, desk: 2, control: 0x31, ..reset() };
     let mut out = guard(REPLY_SIZE);
     let code = raw::frame(&mut fresh(), &made(q), &mut out);
     let code = raw::read(q, wrote(code, &out));
-    assert_eq!(code, (1 << 32) + (6 << 16) + 6);
+    assert_eq!(code, TOLD + (6 << 16) + 6);
     assert_eq!(out[6..12], [0, 64, 0, 0, 0, 0]);
     let q = Asked { control: 0x80, a: 3, ..q };
     let mut out = guard(REPLY_SIZE);
     let code = raw::frame(&mut fresh(), &made(q), &mut out);
-    assert_eq!(raw::read(q, wrote(code, &out)), (1 << 32) + (0x13 << 24) + (6 << 16));
+    assert_eq!(raw::read(q, wrote(code, &out)), TOLD + (0x13 << 24) + (6 << 16));
 }
 
 #[test]
@@ -194,7 +196,7 @@ fn read_refuses_in_rising_number() {
         refused(raw::read(q, &RESET), Refusal::WrongLength);
         refused(raw::read(q, &[6, 0, 0x64, 0, 0, 0]), Refusal::WrongCheck);
     }
-    let others = [none, Asked { kind: 1, ..q }, Asked { kind: 2, ..q }, Asked { desk: 1, ..q }, Asked { control: 0x63, ..q }, Asked { control: 0x81, ..q }];
+    let others = [none, Asked { kind: 1, ..q }, Asked { kind: 2, ..q }, Asked { desk: 1, ..q }, Asked { control: 0x63, ..q }, Asked { control: 0x81, ..q }, Asked { control: 0x164, ..q }];
     for q in others {
         refused(raw::read(q, &RESET_REPLY), Refusal::NotTheReply);
     }
@@ -214,11 +216,11 @@ fn line_is_written() {
 #[test]
 fn line_refuses() {
     let refuses = |block: &[u8], record: &[u8], room, wanted| box_refuses(&[], room, wanted, |_, out| raw::line(block, record, out));
-    refuses(&DEFAULT_BLOCK_7[..13], &RECORD, 40, Refusal::OutOfRange);
+    refuses(&DEFAULT_BLOCK_7[..BLOCK_SIZE - 1], &RECORD, 40, Refusal::OutOfRange);
     refuses(&[DEFAULT_BLOCK_7, DEFAULT_BLOCK_7].concat(), &RECORD, 40, Refusal::OutOfRange);
     refuses(&DEFAULT_BLOCK_7, &RECORD[1..], 40, Refusal::OutOfRange);
     refuses(&DEFAULT_BLOCK_7, &[], 0, Refusal::OutOfRange);
-    refuses(&[1; 14], &RECORD, 0, Refusal::OutOfRange);
+    refuses(&[1; BLOCK_SIZE], &RECORD, 0, Refusal::OutOfRange);
     refuses(&DEFAULT_BLOCK_7, &RECORD, LINE.len() - 1, Refusal::NoRoom);
 }
 
@@ -228,9 +230,9 @@ fn lines_are_written_all_or_none() {
     let mut out = guard(80);
     let code = raw::lines(&DEFAULT_BLOCK_7, &sent, &mut out);
     assert_eq!(wrote(code, &out), [LINE, LINE].concat());
-    assert_eq!(raw::lines(&DEFAULT_BLOCK_7, &[], &mut []), 256);
+    assert_eq!(raw::lines(&DEFAULT_BLOCK_7, &[], &mut []), WRITTEN);
     let refuses = |block: &[u8], room, wanted| box_refuses(&[], room, wanted, |_, out| raw::lines(block, &sent, out));
     refuses(&DEFAULT_BLOCK_7[1..], 80, Refusal::OutOfRange);
-    refuses(&[1; 14], 80, Refusal::OutOfRange);
+    refuses(&[1; BLOCK_SIZE], 80, Refusal::OutOfRange);
     refuses(&DEFAULT_BLOCK_7, 2 * LINE.len() - 1, Refusal::NoRoom);
 }

@@ -35,7 +35,7 @@ use Rattle.reader.specs.Reader.{reading, toldOf, readerRefusals, readAs}
 use Rattle.lines.specs.Lines.{lineRefusals, Lined}
 use Rattle.depot_c.specs.Codes.{seenCode, codeOf, writtenCode, readCode}
 
-seen-small : (w : Seen) → seenCode w ≤ 18
+seen-small : (w : Seen) → seenCode w ≤ 2 ^ 16
 seen-small Ignored = omega arith
 seen-small Lost = omega arith
 seen-small Recorded = omega arith

@@ -3,3 +3,4 @@ pub mod Lengths
 pub mod NoRequest
 pub mod Once
 pub mod Told
+pub mod Ranges

@@ -12,7 +12,7 @@ use Rattle.octets.proofs.Tests.{none-head, none-tail}
 use Rattle.frame.specs.declared.Way.the-variants.{Reply}
 use Rattle.frame.specs.declared.Refusal.{Refusal}
 use Rattle.frame.specs.declared.Refusal.the-variants.{WrongLength}
-use Rattle.frame.specs.Shape.{shapeOf}
+use Rattle.frame.specs.Shape.{shapeOf, replyRoom}
 use Rattle.frame.specs.Judged.{kindOf, faults, partsOf}
 use Rattle.depot.proofs.Replying.{longest-fits}
 use Rattle.requests.specs.declared.Request.{Request}
@@ -24,15 +24,15 @@ use Rattle.depot_c.proofs.Fits.{lead-small}
 pub record Small (t : Told) : Type 0 where
   pub status : t .status < 256
   pub start : t .start ≤ 6
-  pub len : t .len ≤ 842
+  pub len : t .len ≤ replyRoom
 
 module _ (q : Request) (s : List ℕ) (octets : Octets s) where
   -- a frame that is not refused is no longer than its kind allows
-  short : first (readerRefusals q s) ≡ none → length s ≤ 842
+  short : first (readerRefusals q s) ≡ none → length s ≤ replyRoom
   unfolding readerRefusals faults
   short e = omega (arith, ltb-false (shapeOf (kindOf s) .longest) (length s) (none-head WrongLength _ _ (none-tail WrongLength _ _ e)), longest-fits (kindOf s))
 
-  here : length s ≤ 842 → Small (toldOf (partsOf Reply s) s)
+  here : length s ≤ replyRoom → Small (toldOf (partsOf Reply s) s)
   unfolding toldOf partsOf
   here h = record { status = octets _; start = omega (arith, lead-small (kindOf s)); len = omega arith }
 

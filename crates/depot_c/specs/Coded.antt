@@ -8,6 +8,8 @@ use lib.Dec.{eqb}
 use Rattle.octets.specs.Tests.{first}
 use Rattle.frame.specs.declared.Refusal.{Refusal}
 use Rattle.frame.specs.declared.Refusal.the-variants.{OutOfRange}
+use Rattle.table.specs.Entries.{recordWidth}
+use Rattle.rules.specs.Config.{blockSize}
 use Rattle.rules.specs.declared.Written.{Written}
 use Rattle.rules.specs.Box.{Event}
 use Rattle.rules.specs.Output.{Wrote}
@@ -45,10 +47,10 @@ FramedAs q out n out′ = WroteAs (makerRefusals q (length out)) (requestFrame q
 unfoldable pub notLong : ℕ → List ℕ → Refusal × Bool
 notLong size s = (OutOfRange, not (eqb (length s) size))
 
--- the line writer: a block of another length than 14 is refused; then what `Lined` of the line writer refuses
+-- the line writer: a block of another length is refused; then what `Lined` of the line writer refuses
 abbrev pub linesTests : List ℕ → List ℕ → List ℕ → List (Refusal × Bool)
-linesTests block text out = notLong 14 block ∷ lineRefusals block text (length out)
+linesTests block text out = notLong blockSize block ∷ lineRefusals block text (length out)
 
--- of one line: a record of another length than 13 is refused too
+-- of one line: a record of another length is refused too
 abbrev pub lineTests : List ℕ → List ℕ → List ℕ → List ℕ → List (Refusal × Bool)
-lineTests block sighted text out = notLong 13 sighted ∷ linesTests block text out
+lineTests block sighted text out = notLong recordWidth sighted ∷ linesTests block text out

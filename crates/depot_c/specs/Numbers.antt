@@ -10,14 +10,15 @@ use Rattle.rules.specs.declared.Command.{Command}
 use Rattle.rules.specs.declared.Command.the-variants.{Baud, Reset, SystemReset, ReadBlock, WriteBlock, SaveBlocks, RestoreBlocks, SetTimer, SendTimer, Login, ReadRecords, SendTable, RemoveRecords, ClearRecords}
 use Rattle.rules.specs.declared.Known.{Known}
 use Rattle.rules.specs.declared.Known.the-variants.{Listed, Unknown}
+use Rattle.rules.specs.Config.{blockSize}
 use Rattle.rules.specs.Control.{known}
 use Rattle.requests.specs.declared.Ask.{Ask}
 use Rattle.requests.specs.declared.Request.{Request}
 use Rattle.typed.specs.Typed.{blockTold}
 
--- an antenna mask is one octet; a larger number is as the mask 0, which a sighting refuses with 6
-unfoldable pub maskOf : ℕ → ℕ
-maskOf mask = cond (ltb mask 256) mask 0
+-- an antenna mask and a control byte are one octet each; a larger number is as 0, which is no mask and no command
+unfoldable pub octetOf : ℕ → ℕ
+octetOf n = cond (ltb n 256) n 0
 
 -- 0 standard, 1 advanced
 unfoldable pub kindNamed : ℕ → Kind
@@ -48,9 +49,9 @@ abbrev pub askOf : Known → ℕ → ℕ → ℕ → Ask
 askOf (Listed row) a b c = askWith (row .command) a b c
 askOf Unknown a b c = noAsk
 
--- a frame kind is named, and a write has its fourteen bytes
+-- a frame kind is named, and a write has the bytes of a block
 unfoldable pub whole : ℕ → ℕ → List ℕ → Bool
-whole kind control bytes = ltb kind 2 && (not (eqb control 0x81) || eqb (length bytes) 14)
+whole kind control bytes = ltb kind 2 && (not (eqb control 0x81) || eqb (length bytes) blockSize)
 
 -- the request that the numbers name
 unfoldable pub requestOf : ℕ → ℕ → ℕ → ℕ → ℕ → ℕ → List ℕ → Request
@@ -58,6 +59,6 @@ requestOf kind desk control a b c bytes =
     record {
       kind = kindNamed kind;
       desk = desk;
-      ask = cond (whole kind control bytes) (askOf (known control) a b c) noAsk;
+      ask = cond (whole kind (octetOf control) bytes) (askOf (known (octetOf control)) a b c) noAsk;
       bytes = blockTold bytes .bytes;
     }

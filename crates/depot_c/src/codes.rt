@@ -7,13 +7,23 @@ ghost use mathlib.Core.Path.{_≡_};
 ghost use Prim.Native.Nat.{_<_, _^_};
 ghost use Rattle.depot_c.specs.Codes.{seenCode, codeOf, writtenCode, readCode};
 
+const RECORDED: u64 = 64;
+
+const LOST: u64 = 65;
+
+const IGNORED: u64 = 65536;
+
+const TOLD: u64 = 4294967296;
+
+const WRITTEN: u64 = 9223372036854775808;
+
 fn seen_code(w: Seen) -> u64
     ensures { λ r. ⌜ r ≡ seenCode w ⌝ }
 {
     match w {
-        Seen::Ignored => 16,
-        Seen::Lost => 17,
-        Seen::Recorded => 18,
+        Seen::Ignored => IGNORED,
+        Seen::Lost => LOST,
+        Seen::Recorded => RECORDED,
     }
 }
 
@@ -26,7 +36,7 @@ pub fn answer_code(a: Answer) -> u64
         Answer::Done => 0,
         Answer::Refused(r) => r.number() as u64,
         Answer::Sighted(w) => seen_code(w),
-        Answer::Reply(n) => 256 + n as u64,
+        Answer::Reply(n) => WRITTEN + n as u64,
     }
 }
 
@@ -37,7 +47,7 @@ pub fn written_code(w: Written) -> u64
 {
     match w {
         Written::Refused(r) => r.number() as u64,
-        Written::Octets(n) => 256 + n as u64,
+        Written::Octets(n) => WRITTEN + n as u64,
     }
 }
 
@@ -48,7 +58,7 @@ pub fn read_code(a: Reading) -> u64
 {
     match a {
         Reading::Refused(r) => r.number() as u64,
-        Reading::Sound(t) => 4294967296
+        Reading::Sound(t) => TOLD
             + t.status as u64 * 16777216
             + t.start as u64 * 65536
             + t.len as u64,

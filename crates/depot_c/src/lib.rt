@@ -3,17 +3,22 @@ use codes::answer_code;
 use codes::read_code;
 use codes::written_code;
 use frame::Refusal;
+use request::octet_of;
 use request::request_of;
+use rules::BLOCK;
 use rules::Written;
+use table::RECORD;
 ghost use mathlib.Core.Path.{_≡_};
 ghost use mathlib.Core.List.{[]};
 ghost use lib.ListN.{length};
+ghost use Rattle.table.specs.Entries.{recordWidth};
+ghost use Rattle.rules.specs.Config.{blockSize};
 ghost use Rattle.rules.specs.Box.{Event};
 ghost use Rattle.rules.specs.Line.{line};
 ghost use Rattle.lines.specs.Lines.{linesOf};
 ghost use Rattle.reader.specs.Reader.{readAs};
 ghost use Rattle.depot_c.specs.Codes.{readCode};
-ghost use Rattle.depot_c.specs.Numbers.{maskOf, requestOf};
+ghost use Rattle.depot_c.specs.Numbers.{octetOf, requestOf};
 ghost use Rattle.depot_c.specs.Coded.{CalledAs, MadeAs, WroteAs, FramedAs, lineTests, linesTests};
 
 mod codes;
@@ -37,22 +42,12 @@ pub extern "C" fn depot_frame(store: &mut [u8], frame: &[u8], out: &mut [u8]) ->
     answer_code(depot::frame(store, frame, out))
 }
 
-// The octet of an antenna mask: 0, which is refused, for a number that is none.
-fn mask_of(mask: u64) -> u8
-    ensures { λ r. ⌜ r ≡ maskOf mask ⌝ }
-{
-    if mask < 256 {
-        return mask as u8;
-    }
-    0
-}
-
 // A tag is sighted at a desk.
 #[no_mangle]
 pub extern "C" fn depot_sighting(store: &mut [u8], desk: u64, uid: u64, mask: u64) -> u64
-    ensures { λ r. ⌜ CalledAs (Event.sighting desk uid (maskOf mask)) (now (store .entry)) [] r (now (store .exit)) [] ⌝ }
+    ensures { λ r. ⌜ CalledAs (Event.sighting desk uid (octetOf mask)) (now (store .entry)) [] r (now (store .exit)) [] ⌝ }
 {
-    answer_code(depot::sighting(store, desk, uid, mask_of(mask)))
+    answer_code(depot::sighting(store, desk, uid, octet_of(mask)))
 }
 
 // A tick of 100 ms passes for all desks.
@@ -70,7 +65,7 @@ pub extern "C" fn depot_tick(store: &mut [u8]) -> u64
 pub extern "C" fn depot_make(
     kind: u64,
     desk: u64,
-    control: u8,
+    control: u64,
     a: u64,
     b: u64,
     c: u64,
@@ -88,7 +83,7 @@ pub extern "C" fn depot_make(
 pub extern "C" fn depot_read(
     kind: u64,
     desk: u64,
-    control: u8,
+    control: u64,
     a: u64,
     b: u64,
     c: u64,
@@ -103,22 +98,22 @@ pub extern "C" fn depot_read(
 
 // ---- scan lines
 
-// Fourteen octets, by value.
-fn fourteen(s: &[u8]) -> [u8; 14]
-    requires { ⌜ length (now s) ≡ 14 ⌝ }
+// The octets of a block, by value.
+fn block_of(s: &[u8]) -> [u8; BLOCK]
+    requires { ⌜ length (now s) ≡ blockSize ⌝ }
     ensures { λ r. ⌜ r ≡ now (s .entry) ⌝ }
 {
-    let mut r = [0; 14];
+    let mut r = [0; BLOCK];
     octets::copy_to(&mut r, 0, s);
     r
 }
 
-// Thirteen octets, by value.
-fn thirteen(s: &[u8]) -> [u8; 13]
-    requires { ⌜ length (now s) ≡ 13 ⌝ }
+// The octets of a record, by value.
+fn record_of(s: &[u8]) -> [u8; RECORD]
+    requires { ⌜ length (now s) ≡ recordWidth ⌝ }
     ensures { λ r. ⌜ r ≡ now (s .entry) ⌝ }
 {
-    let mut r = [0; 13];
+    let mut r = [0; RECORD];
     octets::copy_to(&mut r, 0, s);
     r
 }
@@ -128,13 +123,13 @@ fn thirteen(s: &[u8]) -> [u8; 13]
 pub extern "C" fn depot_line(block: &[u8], sighted: &[u8], out: &mut [u8]) -> u64
     ensures { λ r. ⌜ WroteAs (lineTests (now (block .entry)) (now (sighted .entry)) (line (now (block .entry)) (now (sighted .entry))) (now (out .entry))) (line (now (block .entry)) (now (sighted .entry))) (now (out .entry)) r (now (out .exit)) ⌝ }
 {
-    if sighted.len() != 13 {
+    if sighted.len() != RECORD {
         return written_code(Written::Refused(Refusal::OutOfRange));
     }
-    if block.len() != 14 {
+    if block.len() != BLOCK {
         return written_code(Written::Refused(Refusal::OutOfRange));
     }
-    written_code(lines::line(fourteen(block), thirteen(sighted), out))
+    written_code(lines::line(block_of(block), record_of(sighted), out))
 }
 
 // Writes a line for each record that the data of a 0x22 reply carry, all or none.
@@ -142,8 +137,8 @@ pub extern "C" fn depot_line(block: &[u8], sighted: &[u8], out: &mut [u8]) -> u6
 pub extern "C" fn depot_lines(block: &[u8], sent: &[u8], out: &mut [u8]) -> u64
     ensures { λ r. ⌜ WroteAs (linesTests (now (block .entry)) (linesOf (now (block .entry)) (now (sent .entry))) (now (out .entry))) (linesOf (now (block .entry)) (now (sent .entry))) (now (out .entry)) r (now (out .exit)) ⌝ }
 {
-    if block.len() != 14 {
+    if block.len() != BLOCK {
         return written_code(Written::Refused(Refusal::OutOfRange));
     }
-    written_code(lines::lines(fourteen(block), sent, out))
+    written_code(lines::lines(block_of(block), sent, out))
 }

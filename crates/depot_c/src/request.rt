@@ -2,12 +2,23 @@
 use frame::Kind;
 use requests::Ask;
 use requests::Request;
+use rules::BLOCK;
 use rules::Command;
 use rules::Known;
 ghost use mathlib.Core.Path.{_≡_};
 ghost use mathlib.Core.Bool.{cond};
 ghost use Rattle.rules.specs.Control.{known};
-ghost use Rattle.depot_c.specs.Numbers.{kindNamed, askWith, noAsk, askOf, whole, requestOf};
+ghost use Rattle.depot_c.specs.Numbers.{octetOf, kindNamed, askWith, noAsk, askOf, whole, requestOf};
+
+// A number that is to be one octet: 0, which is no mask and no command, for one that is not.
+pub fn octet_of(n: u64) -> u8
+    ensures { λ r. ⌜ r ≡ octetOf n ⌝ }
+{
+    if n < 256 {
+        return n as u8;
+    }
+    0
+}
 
 fn kind_of(kind: u64) -> Kind
     ensures { λ r. ⌜ r ≡ kindNamed kind ⌝ }
@@ -53,7 +64,7 @@ fn ask_of(control: u8, a: u64, b: u64, c: u64) -> Ask
     }
 }
 
-// Whether a frame kind is named, and a write has its fourteen bytes.
+// Whether a frame kind is named, and a write has the bytes of a block.
 fn is_whole(kind: u64, control: u8, bytes: &[u8]) -> bool
     ensures { λ r. ⌜ r ≡ whole kind control (now (bytes .entry)) ⌝ }
 {
@@ -63,7 +74,7 @@ fn is_whole(kind: u64, control: u8, bytes: &[u8]) -> bool
     if control != 0x81 {
         return true;
     }
-    bytes.len() == 14
+    bytes.len() == BLOCK
 }
 
 // That of a whole request; what is none is one whose value its field can't hold.
@@ -80,7 +91,7 @@ fn ask_if(whole: bool, control: u8, a: u64, b: u64, c: u64) -> Ask
 pub fn request_of(
     kind: u64,
     desk: u64,
-    control: u8,
+    control: u64,
     a: u64,
     b: u64,
     c: u64,
@@ -89,12 +100,13 @@ pub fn request_of(
     ensures { λ r. ⌜ r ≡ requestOf kind desk control a b c (now (bytes .entry)) ⌝ }
 {
     let block = typed::block_in(bytes);
-    let fourteen = block.bytes;
-    let ask = ask_if(is_whole(kind, control, bytes), control, a, b, c);
+    let written = block.bytes;
+    let octet = octet_of(control);
+    let ask = ask_if(is_whole(kind, octet, bytes), octet, a, b, c);
     Request {
         kind: kind_of(kind),
         desk,
         ask: ask,
-        bytes: fourteen,
+        bytes: written,
     }
 }

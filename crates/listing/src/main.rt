@@ -1,9 +1,11 @@
 // The listing: a fresh box, lines from standard input, and one line printed for each. What a line says and what is printed is
-// proved in `text`; this is the loop around it.
+// proved in `text` and `feeding`; this is the loop around it.
+use feeding::Begun;
+use feeding::HELD;
+use frame::Advanced;
 use libc::STDIN_FILENO;
 use libc::STDOUT_FILENO;
 use rules::Written;
-use text::Begun;
 use text::LONGEST;
 ghost use Prim.Native.Nat.{_≤_};
 ghost use lib.ListN.{length};
@@ -40,7 +42,7 @@ fn place(out: &[u8], waiting: usize) -> usize
 fn respond(p: Progress, held: &[u8], store: &mut [u8], reply: &mut [u8], out: &mut [u8]) -> usize {
     let at = place(out, p.waiting);
     let room = out.len() - at;
-    match text::answer(p.line, held, store, reply, &mut out[at..]) {
+    match feeding::answer(p.line, held, store, reply, &mut out[at..]) {
         Written::Octets(n) => { if n <= room { at + n } else { at } }
         Written::Refused(_) => at,
     }
@@ -57,13 +59,13 @@ fn take(
 ) -> Progress {
     if c == b'\n' {
         return Progress {
-            line: text::start(),
+            line: feeding::start(),
             waiting: respond(p, held, store, reply, out),
             more: true,
         };
     }
     Progress {
-        line: text::feed(p.line, held, c),
+        line: feeding::feed(p.line, held, c),
         waiting: p.waiting,
         more: true,
     }
@@ -119,7 +121,7 @@ fn finish(p: Progress, held: &[u8], store: &mut [u8], reply: &mut [u8], out: &mu
 // Nothing says that input ends, so the turns are counted down from a number that no run uses up.
 fn list(held: &mut [u8], store: &mut [u8], reply: &mut [u8], out: &mut [u8]) {
     let mut p = Progress {
-        line: text::start(),
+        line: feeding::start(),
         waiting: 0,
         more: true,
     };
@@ -132,9 +134,9 @@ fn list(held: &mut [u8], store: &mut [u8], reply: &mut [u8], out: &mut [u8]) {
 }
 
 fn main() {
-    let mut store = [0u8; 16384];
-    let mut held = [0u8; 1686];
-    let mut reply = [0u8; 842];
+    let mut store = [0u8; store::SIZE];
+    let mut held = [0u8; HELD];
+    let mut reply = [0u8; Advanced::LONGEST];
     let mut out = io::large_buffer();
     depot::fresh(&mut store);
     list(&mut held, &mut store, &mut reply, &mut out);

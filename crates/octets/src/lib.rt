@@ -1,10 +1,17 @@
 // Octets of a buffer, read and written at a place. Each contract says what was read by `part`, and the whole buffer at exit by `put`.
 ghost use mathlib.Core.Path.{_≡_};
 ghost use mathlib.Core.Logic.{_⊎_};
-ghost use Prim.Native.Nat.{_+_, _≤_};
+ghost use Prim.Native.Nat.{_+_, _≤_, min};
 ghost use lib.ListN.{length, replicate};
 ghost use Rattle.octets.specs.Parts.{part, put, alike};
 ghost use Rattle.octets.specs.Numbers.{number, octets, u16At};
+
+// The lesser of two numbers.
+pub fn least(a: usize, b: usize) -> usize
+    ensures { λ r. ⌜ (r ≡ min a b) × (r ≤ a) × (r ≤ b) ⌝ }
+{
+    if a < b { a } else { b }
+}
 
 // Two octets as a number, most significant first.
 pub fn get16(s: &[u8], at: usize) -> u16

@@ -1,6 +1,3 @@
 pub mod Values
+pub mod Decimals
 pub mod Printing
-pub mod Feeding
-pub mod Long
-pub mod Whole
-pub mod Rooms

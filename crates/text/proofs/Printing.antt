@@ -1,7 +1,7 @@
 -- What is printed: how long it is, and a line of hex digits in the output. Assumes nothing.
 use Prim.Native.Nat.{ℕ, _+_, _*_, _≤_}
 use mathlib.Core.Path.{_≡_, sym, ap, _∙_}
-use mathlib.Core.List.{List, [], _∷_}
+use mathlib.Core.List.{List, [], _∷_, _++_}
 use native.Mathlib.Nat.{zero-add}
 use native.Mathlib.Omega.{arith}
 use lib.ListN.{length, set, take, length-append, length-take}
@@ -13,8 +13,10 @@ use Rattle.rules.specs.declared.Seen.the-variants.{Ignored, Lost, Recorded}
 use Rattle.depot.specs.declared.Answer.{Answer}
 use Rattle.depot.specs.declared.Answer.the-variants.{Refused, Reply, Sighted, Done}
 use Rattle.depot.proofs.Short.{Short}
-use Rattle.text.specs.Listing.{refusedLine, hexLine, seenLine, okLine, printed}
-use Rattle.text.specs.Feeding.{longestLine}
+use Rattle.frame.specs.Refusal.{numberOf}
+use Rattle.text.specs.Digits.{placesOf, decimalOf}
+use Rattle.text.proofs.Decimals.{places-most, decimal-length}
+use Rattle.text.specs.Listing.{wordRoom, longestLine, numberLine, refusedLine, hexLine, seenLine, okLine, printed}
 
 pub hex-line-length : (s : List ℕ) → length (hexLine s) ≡ 2 * length s + 1
 unfolding hexLine
@@ -26,10 +28,22 @@ hex-line-put s out out′ p =
     ap (λ (l : List ℕ). set l (2 * length s) 0x0A) p
     ∙ sym (put-append 0 (hex s) (0x0A ∷ []) out ∙ put-one (0 + length (hex s)) 0x0A (put 0 (hex s) out) ∙ rw (zero-add, hex-length))
 
+pub number-line-length : (word : List ℕ) (n : ℕ) → length (numberLine word n) ≡ length word + placesOf n + 1
+unfolding numberLine
+number-line-length word n =
+    omega (arith, length-append word (decimalOf n ++ (0x0A ∷ [])), length-append (decimalOf n) (0x0A ∷ []), decimal-length n)
+
+pub number-line-put : (word out mid out′ : List ℕ) (n k : ℕ) → mid ≡ put 0 word out → k ≡ length (decimalOf n) → out′ ≡ put (length word) (decimalOf n) mid
+    → set out′ (length word + k) 0x0A ≡ put 0 (numberLine word n) out
+unfolding numberLine
+number-line-put word out mid out′ n k m l p =
+    rw (p, m, l)
+    (sym (put-append 0 word (decimalOf n ++ (0x0A ∷ [])) out ∙ put-append (0 + length word) (decimalOf n) (0x0A ∷ []) (put 0 word out) ∙ simp (put-one, zero-add)))
+
 -- every line has room in as many octets as the longest
 pub printed-short : (a : Answer) (reply : List ℕ) → Short a → length (printed a reply) ≤ longestLine
 unfolding printed refusedLine seenLine okLine
-printed-short (Refused r) reply h = omega arith
+printed-short (Refused r) reply h = omega (arith, number-line-length (0x72 ∷ 0x65 ∷ 0x66 ∷ 0x75 ∷ 0x73 ∷ 0x65 ∷ 0x64 ∷ 0x20 ∷ []) (numberOf r), places-most (numberOf r))
 printed-short (Reply n) reply h = omega (arith, hex-line-length (take n reply), length-take n reply)
 printed-short (Sighted Ignored) reply h = omega arith
 printed-short (Sighted Lost) reply h = omega arith
@@ -37,5 +51,5 @@ printed-short (Sighted Recorded) reply h = omega arith
 printed-short Done reply h = omega arith
 
 -- so it has room wherever the longest has
-pub room-for : (a : Answer) (reply out : List ℕ) → Short a → longestLine ≤ length out → (10 ≤ length out) × (length (printed a reply) ≤ length out)
+pub room-for : (a : Answer) (reply out : List ℕ) → Short a → longestLine ≤ length out → (wordRoom ≤ length out) × (length (printed a reply) ≤ length out)
 room-for a reply out h l = (omega arith, omega (arith, printed-short a reply h))

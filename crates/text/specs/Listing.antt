@@ -1,5 +1,5 @@
 -- The listing: what a line says, and what is printed for it. Assumes nothing.
-use Prim.Native.Nat.{ℕ, _+_, _-_}
+use Prim.Native.Nat.{ℕ, _+_, _-_, _*_}
 use mathlib.Core.Path.{_≡_}
 use mathlib.Core.Bool.{Bool, false, cond, not, _&&_}
 use mathlib.Core.List.{List, [], _∷_, _++_}
@@ -8,15 +8,14 @@ use lib.Dec.{eqb}
 use Rattle.octets.specs.Tests.{allOf}
 use Rattle.octets.specs.Parts.{part, put}
 use Rattle.octets.specs.Numbers.{number}
+use Rattle.frame.specs.Shape.{replyRoom}
 use Rattle.frame.specs.Refusal.{numberOf}
 use Rattle.rules.specs.declared.Seen.{Seen}
 use Rattle.rules.specs.declared.Seen.the-variants.{Ignored, Lost, Recorded}
-use Rattle.rules.specs.Box.{Event}
 use Rattle.rules.specs.Line.{hex}
 use Rattle.depot.specs.declared.Answer.{Answer}
 use Rattle.depot.specs.declared.Answer.the-variants.{Refused, Reply, Sighted, Done}
-use Rattle.depot.specs.Called.{Called}
-use Rattle.text.specs.Digits.{decimal, isHex, octetsOf}
+use Rattle.text.specs.Digits.{decimal, isHex, octetsOf, decimalOf}
 
 -- ---- what a line says
 
@@ -52,10 +51,15 @@ lineOf s = cond (allOf isHex s) (cond (odd s) notRead (frame (octetsOf s))) (oth
 
 -- ---- what is printed
 
--- `refused ` and its number, LF; the reply in capital hex, LF
-unfoldable pub refusedLine : ℕ → List ℕ
-refusedLine n = 0x72 ∷ 0x65 ∷ 0x66 ∷ 0x75 ∷ 0x73 ∷ 0x65 ∷ 0x64 ∷ 0x20 ∷ (0x30 + n) ∷ 0x0A ∷ []
+-- a word and a number in decimal, LF
+unfoldable pub numberLine : List ℕ → ℕ → List ℕ
+numberLine word n = word ++ (decimalOf n ++ (0x0A ∷ []))
 
+-- `refused ` and its number
+unfoldable pub refusedLine : ℕ → List ℕ
+refusedLine n = numberLine (0x72 ∷ 0x65 ∷ 0x66 ∷ 0x75 ∷ 0x73 ∷ 0x65 ∷ 0x64 ∷ 0x20 ∷ []) n
+
+-- the reply in capital hex, LF
 unfoldable pub hexLine : List ℕ → List ℕ
 hexLine s = hex s ++ (0x0A ∷ [])
 
@@ -79,21 +83,15 @@ printed (Reply n) reply = hexLine (take n reply)
 printed (Sighted w) reply = seenLine w
 printed Done reply = okLine
 
+-- the longest line: the digits of the longest reply, and LF
+abbrev pub longestLine : ℕ
+longestLine = 2 * replyRoom + 1
+
+-- any line but a reply's has room in so many octets
+abbrev pub wordRoom : ℕ
+wordRoom = 14
+
 -- a text stands at the start of the output, whole, and the octets after it stay
 pub record Printed (t out : List ℕ) (n : ℕ) (out′ : List ℕ) : Type 0 where
   pub count-is : n ≡ length t
   pub output-is : out′ ≡ put 0 t out
-
--- ---- a line is answered: store, reply buffer and output before, how much is printed, and the three after
-
-abbrev pub Answers : Line → List ℕ → List ℕ → List ℕ → ℕ → List ℕ → List ℕ → List ℕ → Type 0
-Answers (frame f) s reply out n s′ reply′ out′ =
-    (a : Answer) × Called (Event.frame f (length reply)) s reply a s′ reply′ × Printed (printed a reply′) out n out′
-Answers (sighting desk uid mask) s reply out n s′ reply′ out′ =
-    (a : Answer) × Called (Event.sighting desk uid mask) s [] a s′ [] × (reply′ ≡ reply) × Printed (printed a reply) out n out′
-Answers tick s reply out n s′ reply′ out′ =
-    (a : Answer) × Called Event.tick s [] a s′ [] × (reply′ ≡ reply) × Printed (printed a reply) out n out′
-Answers notRead s reply out n s′ reply′ out′ = (s′ ≡ s) × (reply′ ≡ reply) × Printed notReadLine out n out′
-
-pub record Answered (l : Line) (s reply out : List ℕ) (n : ℕ) (s′ reply′ out′ : List ℕ) : Type 0 where
-  pub answers : Answers l s reply out n s′ reply′ out′

@@ -1,5 +1,5 @@
 // Hex digits in either case, read.
-use crate::print::least;
+use octets::least;
 ghost use mathlib.Core.Path.{_≡_};
 ghost use Prim.Native.Nat.{_/_, _<_, min};
 ghost use lib.ListN.{length, take};

@@ -1,18 +1,15 @@
 // What is printed for an answer, written at the start of an output that has room for it. Each gives how many octets.
 use depot::Answer;
 use frame::Refusal;
+use octets::least;
 use rules::Seen;
 ghost use mathlib.Core.Path.{_≡_};
-ghost use Prim.Native.Nat.{_≤_, min};
+ghost use Prim.Native.Nat.{_+_, _≤_};
 ghost use lib.ListN.{length};
 ghost use Rattle.frame.specs.Refusal.{numberOf};
-ghost use Rattle.text.specs.Listing.{Printed, printed, refusedLine, hexLine, seenLine, notReadLine};
-
-pub fn least(a: usize, b: usize) -> usize
-    ensures { λ r. ⌜ (r ≡ min a b) × (r ≤ a) × (r ≤ b) ⌝ }
-{
-    if a < b { a } else { b }
-}
+ghost use Rattle.octets.specs.Parts.{put};
+ghost use Rattle.text.specs.Digits.{decimalOf};
+ghost use Rattle.text.specs.Listing.{wordRoom, Printed, printed, numberLine, refusedLine, hexLine, seenLine, notReadLine};
 
 // Writes a text.
 fn say(text: &[u8], out: &mut [u8]) -> usize
@@ -34,19 +31,38 @@ fn say_hex(s: &[u8], out: &mut [u8]) -> usize
     end + 1
 }
 
+// Writes a number in decimal from a place on, and says how many digits it has.
+fn put_decimal(n: u16, out: &mut [u8], at: usize) -> usize
+    requires { ⌜ at + 5 ≤ length (now out) ⌝ }
+    ensures { λ r. ⌜ (r ≤ 5) × (r ≡ length (decimalOf n)) × (now (out .exit) ≡ put at (decimalOf n) (now (out .entry))) ⌝ }
+{
+    let mut digits = [0u8; 20];
+    let k = io::decimal(n as u64, &mut digits);
+    octets::copy_to(out, at, &digits[..k]);
+    k
+}
+
+// Writes a word and a number in decimal as a line.
+fn say_number(word: &[u8], n: u16, out: &mut [u8]) -> usize
+    requires { ⌜ length (now word) + 6 ≤ length (now out) ⌝ }
+    ensures { λ r. ⌜ Printed (numberLine (now (word .entry)) n) (now (out .entry)) r (now (out .exit)) ⌝ }
+{
+    let at = word.len();
+    octets::copy_to(out, 0, word);
+    let end = at + put_decimal(n, out, at);
+    out[end] = b'\n';
+    end + 1
+}
+
 fn say_refused(why: Refusal, out: &mut [u8]) -> usize
-    requires { ⌜ 10 ≤ length (now out) ⌝ }
+    requires { ⌜ wordRoom ≤ length (now out) ⌝ }
     ensures { λ r. ⌜ Printed (refusedLine (numberOf why)) (now (out .entry)) r (now (out .exit)) ⌝ }
 {
-    let n = 0x30 + why.number();
-    say(
-        &[b'r', b'e', b'f', b'u', b's', b'e', b'd', b' ', n, b'\n'],
-        out,
-    )
+    say_number(b"refused ", why.number() as u16, out)
 }
 
 fn say_seen(seen: Seen, out: &mut [u8]) -> usize
-    requires { ⌜ 10 ≤ length (now out) ⌝ }
+    requires { ⌜ wordRoom ≤ length (now out) ⌝ }
     ensures { λ r. ⌜ Printed (seenLine seen) (now (out .entry)) r (now (out .exit)) ⌝ }
 {
     match seen {
@@ -57,7 +73,7 @@ fn say_seen(seen: Seen, out: &mut [u8]) -> usize
 }
 
 pub fn not_read(out: &mut [u8]) -> usize
-    requires { ⌜ 10 ≤ length (now out) ⌝ }
+    requires { ⌜ wordRoom ≤ length (now out) ⌝ }
     ensures { λ r. ⌜ Printed notReadLine (now (out .entry)) r (now (out .exit)) ⌝ }
 {
     say(b"not read\n", out)
@@ -65,7 +81,7 @@ pub fn not_read(out: &mut [u8]) -> usize
 
 // Writes what is printed for an answer of the box, with the reply buffer after it.
 pub fn show(a: Answer, reply: &[u8], out: &mut [u8]) -> usize
-    requires { ⌜ (10 ≤ length (now out)) × (length (printed a (now reply)) ≤ length (now out)) ⌝ }
+    requires { ⌜ (wordRoom ≤ length (now out)) × (length (printed a (now reply)) ≤ length (now out)) ⌝ }
     ensures { λ r. ⌜ Printed (printed a (now (reply .entry))) (now (out .entry)) r (now (out .exit)) ⌝ }
 {
     match a {

@@ -1,6 +1,7 @@
-//! The checksum: a reader of an 842-octet reply beside a table-driven CRC over as many octets.
+//! The checksum: a reader of the longest reply beside a table-driven CRC over as many octets.
 
 use crate::time;
+use depot::numbers::{RECORD_SIZE, REPLY_SIZE, TOLD};
 use depot::raw::{self, Asked};
 use second::frame::{seal, Kind};
 use std::hint::black_box;
@@ -15,13 +16,13 @@ fn by_table(table: &[u16; 256], octets: &[u8]) -> u16 {
 
 pub fn rows() {
     let table = table();
-    let mut rest = vec![0; 1 + 2 + 64 * 13];
+    let mut rest = vec![0; 1 + 2 + 64 * RECORD_SIZE];
     rest[2] = 64;
     let reply = seal(Kind::Advanced, 0, 0x22, &rest);
-    assert_eq!(reply.len(), 842);
+    assert_eq!(reply.len(), REPLY_SIZE);
     let q = Asked { kind: 1, desk: 0, control: 0x22, a: 64, b: 0, c: 0, bytes: &[] };
-    assert!(raw::read(q, &reply) > 1 << 32);
-    let mine = time(&reply, 100, |r, _| _ = black_box(raw::read(q, r))) / 840.0;
-    let other = time(&reply, 100, |r, _| _ = black_box(by_table(&table, &r[..840]))) / 840.0;
+    assert!(raw::read(q, &reply) >= TOLD);
+    let mine = time(&reply, 100, |r, _| _ = black_box(raw::read(q, r))) / (REPLY_SIZE - 2) as f64;
+    let other = time(&reply, 100, |r, _| _ = black_box(by_table(&table, &r[..REPLY_SIZE - 2]))) / (REPLY_SIZE - 2) as f64;
     println!("{:34} {mine:9.2} {other:9.2} {:6.2}", "CRC, ns an octet (by table)", mine / other);
 }

@@ -5,7 +5,7 @@ mod checksum;
 mod sides;
 mod stores;
 
-use depot::raw;
+use depot::{raw, REPLY_SIZE};
 use second::frame::{seal, Kind};
 use second::gen::Gen;
 use second::listing::{event, Event};
@@ -42,7 +42,7 @@ pub fn row(name: &str, mine: f64, octets: f64, memory: f64) {
 fn frame_row(name: &str, store: &[u8], control: u8, data: &[u8]) {
     let frame = seal(Kind::Advanced, 0, control, data);
     let model = load(store).expect("sound");
-    let mut out = [0; 842];
+    let mut out = [0; REPLY_SIZE];
     let mine = time(&store.to_vec(), 200, |s, _| _ = black_box(raw::frame(s, &frame, &mut out)));
     let octets = time(&store.to_vec(), 200, |s, _| _ = black_box(place::frame(s, &frame, &mut out)));
     let memory = time(&model, 200, |m, _| _ = black_box(m.frame(&frame)));
@@ -106,7 +106,7 @@ fn mix_row(name: &str, store: &[u8], seed: u64, skip: usize) {
     let events: Vec<Event> = (0..skip + 4000).map(|_| event(&gen.next_line())).collect();
     let (before, events) = events.split_at(skip);
     let mut start = store.to_vec();
-    let mut out = [0; 842];
+    let mut out = [0; REPLY_SIZE];
     before.iter().for_each(|event| _ = serve_mine(&mut start, event, &mut out));
     let model = load(&start).expect("sound");
     let mine = time(&start, events.len(), |s, i| _ = black_box(serve_mine(s, &events[i], &mut out)));

@@ -1,5 +1,6 @@
 //! The stores that are measured on.
 
+use depot::numbers::{length, REPLY_SIZE};
 use depot::raw;
 use second::frame::{seal, Kind};
 
@@ -37,9 +38,9 @@ pub fn alike() -> Vec<u8> {
 /// oldest lock gives way.
 pub fn read_out() -> Vec<u8> {
     let mut store = full();
-    let mut out = [0; 842];
+    let mut out = [0; REPLY_SIZE];
     for (control, data) in [(0x22, &[0, 64][..]), (0x32, &[])] {
-        assert!(raw::frame(&mut store, &seal(Kind::Advanced, 7, control, data), &mut out) > 256);
+        assert!(length(raw::frame(&mut store, &seal(Kind::Advanced, 7, control, data), &mut out)).is_some());
     }
     assert_eq!(raw::sighting(&mut store.clone(), 7, 1 << 40, 1), 18);
     store

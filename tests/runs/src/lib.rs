@@ -1,5 +1,6 @@
 //! What the runs share: buffers that are guarded on both sides, and the second program's answers as the library's numbers.
 
+use depot::numbers::{DONE, IGNORED, LOST, RECORDED, WRITTEN};
 use second::frame::{Kind, Refusal};
 use second::listing::Event;
 use second::model::Seen;
@@ -37,23 +38,23 @@ pub fn refused(refusal: Refusal) -> u64 {
 }
 
 pub fn is_refusal(code: u64) -> bool {
-    (1..=8).contains(&code)
+    (1..64).contains(&code)
 }
 
 pub fn octets_code(made: Result<usize, Refusal>) -> u64 {
-    made.map_or_else(refused, |length| 256 + length as u64)
+    made.map_or_else(refused, |length| WRITTEN + length as u64)
 }
 
 pub fn seen_code(seen: Result<Seen, Refusal>) -> u64 {
     seen.map_or_else(refused, |seen| match seen {
-        Seen::Ignored => 16,
-        Seen::Lost => 17,
-        Seen::Recorded => 18,
+        Seen::Ignored => IGNORED,
+        Seen::Lost => LOST,
+        Seen::Recorded => RECORDED,
     })
 }
 
 pub fn done_code(done: Result<(), Refusal>) -> u64 {
-    done.map_or_else(refused, |()| 0)
+    done.map_or_else(refused, |()| DONE)
 }
 
 pub fn kind_number(kind: Kind) -> u64 {
@@ -69,7 +70,7 @@ pub fn library(store: &mut [u8], event: &Event, out: &mut [u8]) -> u64 {
         Event::Frame(octets) => depot::raw::frame(store, octets, out),
         Event::Sighting { desk, uid, mask } => depot::raw::sighting(store, u64::from(*desk), u64::from_be_bytes(*uid), u64::from(*mask)),
         Event::Tick => depot::raw::tick(store),
-        Event::NotRead => 0,
+        Event::NotRead => DONE,
     }
 }
 
@@ -79,7 +80,7 @@ pub fn second_box(store: &mut [u8], event: &Event, out: &mut [u8]) -> u64 {
         Event::Frame(octets) => octets_code(second::place::frame(store, octets, out)),
         Event::Sighting { desk, uid, mask } => seen_code(second::place::sighting(store, u64::from(*desk), *uid, *mask)),
         Event::Tick => done_code(second::place::tick(store)),
-        Event::NotRead => 0,
+        Event::NotRead => DONE,
     }
 }
 

@@ -2,7 +2,7 @@
 
 use crate::blocks::{self, Loc};
 use crate::frame::Kind;
-use crate::model::{Desk, TAB_SIZE};
+use crate::model::{Desk, RECORD, TAB_SIZE};
 use crate::timer::Timer;
 
 pub const OK: u8 = 0x00;
@@ -65,7 +65,7 @@ pub fn known(control: u8) -> Option<Known> {
 /// How many records fit in a reply: 19 and 64.
 pub fn fitting(kind: Kind) -> usize {
     let room = kind.longest() - kind.shortest_reply() - 2;
-    room / 13
+    room / RECORD
 }
 
 pub struct Reply {

@@ -2,6 +2,9 @@
 
 use crate::crc;
 
+/// The octets of the longest frame, an advanced one.
+pub const LONGEST: usize = 842;
+
 /// Why a call is refused, by the paper's numbers.
 #[derive(Clone, Copy, PartialEq, Eq, Debug)]
 pub enum Refusal {
@@ -53,7 +56,7 @@ impl Kind {
     pub fn longest(self) -> usize {
         match self {
             Kind::Standard => 255,
-            Kind::Advanced => 842,
+            Kind::Advanced => LONGEST,
         }
     }
 

@@ -3,7 +3,7 @@
 use crate::blocks::{self, Block, BLOCK_BYTES};
 use crate::command::{self, fitting};
 use crate::frame::{judge_reply, seal, Kind, Refusal};
-use crate::model::{Desk, DESKS, TAB_SIZE};
+use crate::model::{Desk, DESKS, RECORD, TAB_SIZE};
 
 /// A request. Numbers are wider than their fields.
 #[derive(Clone, Copy, PartialEq, Eq, Debug)]
@@ -162,7 +162,7 @@ fn block_possible(request: &Request, status: u8, length: usize) -> bool {
 /// 0x94 means that the reply was full and that more were wanted.
 fn records_possible(kind: Kind, k: u64, status: u8, length: usize) -> bool {
     let most = fitting(kind).min(k as usize);
-    let sent = (0..=fitting(kind)).find(|sent| 2 + 13 * sent == length).unwrap_or(0);
+    let sent = (0..=fitting(kind)).find(|sent| 2 + RECORD * sent == length).unwrap_or(0);
     match status {
         command::PARAMETER => k == 0 && length == 0,
         command::NO_DATA => k > 0 && length == 0,
@@ -177,7 +177,7 @@ fn records_possible(kind: Kind, k: u64, status: u8, length: usize) -> bool {
 fn count_agrees(request: &Request, data: &[u8]) -> bool {
     match (request, data) {
         (Request::ReadRecords { .. }, [high, low, records @ ..]) => {
-            usize::from(*high) * 256 + usize::from(*low) == records.len() / 13
+            usize::from(*high) * 256 + usize::from(*low) == records.len() / RECORD
         }
         _ => true,
     }

@@ -3,7 +3,7 @@
 use crate::blocks::{block7_legal, Block};
 use crate::frame::Refusal;
 use crate::listing::capital_hex;
-use crate::model::Record;
+use crate::model::{Record, RECORD};
 
 /// Writes one line at the start of `out`: how long it is, or refusal 6 or 7.
 pub fn line(block7: &Block, record: &Record, out: &mut [u8]) -> Result<usize, Refusal> {
@@ -19,10 +19,10 @@ pub fn lines(block7: &Block, data: &[u8], out: &mut [u8]) -> Result<usize, Refus
     if !block7_legal(block7) {
         return Err(Refusal::Argument);
     }
-    let records = data.get(2..).unwrap_or(&[]).chunks_exact(13);
+    let records = data.get(2..).unwrap_or(&[]).chunks_exact(RECORD);
     let text: Vec<u8> = records
         .flat_map(|octets| {
-            let mut record = [0; 13];
+            let mut record = [0; RECORD];
             record.copy_from_slice(octets);
             shaped(block7, &record)
         })

@@ -1,6 +1,6 @@
 //! A program and its listing: a line of text to an event, an answer to a line.
 
-use crate::frame::Refusal;
+use crate::frame::{Refusal, LONGEST};
 use crate::model::{Depot, Seen, Uid};
 
 #[derive(Clone, PartialEq, Eq, Debug)]
@@ -21,7 +21,7 @@ pub enum Answer {
 }
 
 /// One octet more than the longest frame: enough to be refused for its length.
-const KEPT_OCTETS: usize = 843;
+const KEPT_OCTETS: usize = LONGEST + 1;
 const KEPT: usize = 2 * KEPT_OCTETS;
 
 /// A line as it arrives. Only a bounded part is held; of the rest it is

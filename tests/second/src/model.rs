@@ -12,7 +12,8 @@ pub const LOCKS: usize = 64;
 pub type Uid = [u8; 8];
 
 /// UID 8, timer 4, antenna mask 1.
-pub type Record = [u8; 13];
+pub const RECORD: usize = 13;
+pub type Record = [u8; RECORD];
 
 #[derive(Clone, Copy, PartialEq, Eq, Debug)]
 pub struct Lock {
@@ -109,7 +110,7 @@ impl Desk {
 }
 
 pub fn record(uid: Uid, timer: Timer, mask: u8) -> Record {
-    let mut octets = [0; 13];
+    let mut octets = [0; RECORD];
     octets[..8].copy_from_slice(&uid);
     octets[8..12].copy_from_slice(&timer.octets());
     octets[12] = mask;

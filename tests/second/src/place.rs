@@ -1,13 +1,13 @@
 //! The four calls on the octets of a store, in place.
 
 use crate::blocks::DEFAULTS;
-use crate::frame::{judge_request, seal, Refusal};
+use crate::frame::{judge_request, seal, Refusal, LONGEST};
 use crate::model::{record, Seen, Uid, DESKS, LOCKS, TAB_SIZE};
 use crate::place_commands;
 use crate::store::*;
 
 /// The reply buffer must hold the longest reply.
-pub const REPLY_BUFFER: usize = 842;
+pub const REPLY_BUFFER: usize = LONGEST;
 
 /// Every octet of a fresh store is given; nothing of what lay there is left.
 pub fn fresh(store: &mut [u8]) -> Result<(), Refusal> {

@@ -2,14 +2,14 @@
 
 use crate::command::known;
 use crate::crc;
-use crate::frame::{seal, Kind};
+use crate::frame::{seal, Kind, LONGEST};
 use crate::gen::Gen;
 
 /// A request that is sound but for its length, which may be any up to 900;
 /// now and then with more behind it.
 pub fn any_length(gen: &mut Gen) {
     let length = match gen.random.below(3) {
-        0 => gen.random.pick(&[253, 254, 255, 256, 840, 841, 842, 843, 844]),
+        0 => gen.random.pick(&[253, 254, 255, 256, LONGEST - 2, LONGEST - 1, LONGEST, LONGEST + 1, LONGEST + 2]),
         _ => gen.next_length(),
     };
     let mut octets = of_length(gen, length);

@@ -1,6 +1,7 @@
 //! Random calls of what the listing does not reach: the store on octets, sound
 //! or damaged, the host's maker and reader, the line writer. One line a call.
 
+use crate::blocks::BLOCK_BYTES;
 use crate::config_stories::any_block7;
 use crate::crc;
 use crate::frame::{seal, Kind, Refusal};
@@ -8,8 +9,8 @@ use crate::gen::Gen;
 use crate::host::{make, read, Request};
 use crate::lines::{line, lines};
 use crate::listing::{capital_hex, event, text, Answer, Event};
-use crate::model::{Depot, TAB_SIZE};
-use crate::place;
+use crate::model::{Depot, Record, RECORD, TAB_SIZE};
+use crate::place::{self, REPLY_BUFFER};
 use crate::random::Random;
 use crate::store::*;
 
@@ -56,8 +57,8 @@ impl Sides {
             store = zeros(random);
         }
         let length = random.pick(&[0, SIZE - 1, SIZE, SIZE, SIZE, SIZE, SIZE]);
-        let short = random.below(843);
-        let mut out = vec![0; random.pick(&[short, 841, 842, 842, 842])];
+        let short = random.below(REPLY_BUFFER + 1);
+        let mut out = vec![0; random.pick(&[short, REPLY_BUFFER - 1, REPLY_BUFFER, REPLY_BUFFER, REPLY_BUFFER])];
         let frame = seal(random.pick(&Kind::BOTH), 8, 0x63, &[]);
         let answer = place::frame(&mut store[..length], &frame, &mut out);
         format!("damage at {at}: {:?}", answer.map_err(Refusal::number))
@@ -88,7 +89,7 @@ impl Sides {
         let random = &self.gen.random;
         let mut out = [0xEE; 90];
         let room = random.pick(&[random.below(90), 90]);
-        let record: [u8; 13] = std::array::from_fn(|_| random.octet());
+        let record: Record = std::array::from_fn(|_| random.octet());
         let data = random.octets(random.pick(&[0, 1, 2, 15, 28, 20]));
         let made = match random.below(2) {
             0 => line(&block, &record, &mut out[..room]),
@@ -117,7 +118,7 @@ pub fn served(store: &mut [u8], event: &Event) -> Answer {
 pub fn interesting(random: &Random, store: &[u8]) -> usize {
     let row = rows_at(store) + random.below(8) * ROW;
     let locks = LOCK_LIST + LOCK * random.below(3);
-    let block7 = random.pick(&[RAM, EEPROM]) + 7 * 14 + random.pick(&[0, 1, 3, 13]);
+    let block7 = random.pick(&[RAM, EEPROM]) + 7 * BLOCK_BYTES + random.pick(&[0, 1, 3, 13]);
     let fields = [LOGGED_IN, TIMER, TIMER + 1, TIMER + 2, MARK, DUE, TAB_START, LOCK_COUNT];
     match random.below(6) {
         0 => random.below(HEADER),
@@ -214,7 +215,7 @@ pub fn any_reply(random: &Random, kind: Kind, desk: u8, request: &Request) -> Ve
         2..4 => rest[0] = random.pick(&[0, 0x11, 0x92, 0x93, 0x94, 0x94]),
         4 => rest.truncate(random.below(rest.len() + 1)),
         5 => rest.push(0),
-        6 => rest.extend([7; 13]),
+        6 => rest.extend([7; RECORD]),
         7 => kind = random.pick(&Kind::BOTH),
         8 => address ^= 1,
         9 => control ^= 1,
@@ -234,7 +235,7 @@ pub fn any_reply(random: &Random, kind: Kind, desk: u8, request: &Request) -> Ve
 fn box_answer(random: &Random, kind: Kind, request: &Request) -> Vec<u8> {
     let mut depot = Depot::fresh();
     let held = random.pick(&[0, 1, 18, 19, 20, 64, 64, 64]);
-    depot.desks[0].records = vec![[7; 13]; held];
+    depot.desks[0].records = vec![[7; RECORD]; held];
     depot.desks[0].mark = held == TAB_SIZE && random.one_in(2);
     depot.desks[0].logged_in = random.one_in(2);
     let data = request.data().unwrap_or_default();

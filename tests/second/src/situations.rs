@@ -1,6 +1,6 @@
 //! The situations that random events must reach, and the names of shapes.
 
-use crate::frame::{Kind, Refusal};
+use crate::frame::{Kind, Refusal, LONGEST};
 use crate::shapes::CONTROLS;
 
 /// The status octets of each command beside 0x81.
@@ -124,7 +124,7 @@ pub fn refused_shape(octets: &[u8], refusal: Refusal) -> String {
     let agrees = kind == Kind::Advanced && field == Some(octets.len());
     match octets.len() {
         n if n < kind.shortest_request() => format!("{kind:?} too short"),
-        843 if agrees => "Advanced of 843".into(),
+        n if n == LONGEST + 1 && agrees => "Advanced of one too many".into(),
         n if n > kind.longest() && agrees => "Advanced too long, field agrees".into(),
         n if n > kind.longest() => format!("{kind:?} too long"),
         _ => format!("{kind:?} length field"),
@@ -136,7 +136,7 @@ const FIXED: [&str; 70] = [
     "frame: refused 3, Standard too long",
     "frame: refused 3, Advanced too long",
     "frame: refused 3, Advanced too long, field agrees",
-    "frame: refused 3, Advanced of 843",
+    "frame: refused 3, Advanced of one too many",
     "hex: empty line",
     "hex: small",
     "hex: capital",

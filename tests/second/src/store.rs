@@ -1,7 +1,7 @@
 //! The store as octets (docs/LAYOUT.md): is it sound, and what does it say.
 
-use crate::blocks::{block7_legal, Memory, BLOCK_BYTES};
-use crate::model::{Depot, Desk, Lock, DESKS, LOCKS, TAB_SIZE};
+use crate::blocks::{block7_legal, Memory, BLOCKS, BLOCK_BYTES};
+use crate::model::{Depot, Desk, Lock, DESKS, LOCKS, RECORD, TAB_SIZE};
 use crate::timer::Timer;
 
 pub const SIZE: usize = 16384;
@@ -9,13 +9,13 @@ pub const HEADER: usize = 6;
 
 pub const ROW: usize = 1099;
 pub const ROWS: usize = DESKS * ROW;
-pub const ENTRY: usize = 14;
+pub const ENTRY: usize = 1 + RECORD;
 pub const MOST_ENTRIES: usize = 512;
 pub const ENTRIES: usize = MOST_ENTRIES * ENTRY;
 
 /// Where the fields of a row begin.
 pub const RAM: usize = 0;
-pub const EEPROM: usize = 224;
+pub const EEPROM: usize = BLOCKS * BLOCK_BYTES;
 pub const VALID_TIME: usize = 448;
 pub const LOGGED_IN: usize = 450;
 pub const TIMER: usize = 451;

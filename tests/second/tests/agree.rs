@@ -3,7 +3,7 @@
 use second::gen::Gen;
 use second::listing::{event, serve, Answer, Event};
 use second::model::Depot;
-use second::place;
+use second::place::{self, REPLY_BUFFER};
 use second::store::{self, ENTRIES, ROWS, SIZE};
 
 const FILL: u8 = 0xC7;
@@ -21,7 +21,7 @@ fn served(store: &mut [u8], event: &Event) -> Answer {
 
 /// The octets behind a reply stay, and after a refusal all of them.
 fn framed(store: &mut [u8], octets: &[u8]) -> Answer {
-    let mut out = [FILL; 842];
+    let mut out = [FILL; REPLY_BUFFER];
     let answer = place::frame(store, octets, &mut out);
     let written = answer.unwrap_or(0);
     assert!(out[written..].iter().all(|&octet| octet == FILL));

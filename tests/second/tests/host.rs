@@ -1,9 +1,10 @@
 //! Maker and reader, and the pairs of status and length that are possible.
 
+use second::blocks::BLOCK_BYTES;
 use second::command::answer;
 use second::frame::{seal, Kind, Refusal};
 use second::host::{make, possible, read, Request};
-use second::model::{Desk, TAB_SIZE};
+use second::model::{Desk, RECORD, TAB_SIZE};
 use std::collections::BTreeSet;
 
 type Pairs = BTreeSet<(u8, usize)>;
@@ -16,7 +17,7 @@ fn desks() -> Vec<Desk> {
     let mut desks = Vec::new();
     for held in 0..=TAB_SIZE {
         let mut desk = Desk::fresh();
-        desk.records = vec![[7; 13]; held];
+        desk.records = vec![[7; RECORD]; held];
         desk.logged_in = held % 2 == 1;
         desk.eeprom[0][..4].copy_from_slice(&PASSWORDS[held % 3].to_be_bytes());
         desks.push(desk.clone());
@@ -49,7 +50,7 @@ fn requests() -> Vec<Request> {
         Request::EmptyRecords,
     ];
     let legal = [2, 0x20, 0x2C, 1, 0, 0, 0, 0, 0, 0, 0, 0, 0, 0x43];
-    let illegal = [0xFF; 14];
+    let illegal = [0xFF; BLOCK_BYTES];
     for adr in [0, 1, 7, 15, 16, 63, 64, 65, 0x80, 0x87, 0x8F, 0x90, 0xC0, 0xC1, 256] {
         all.push(Request::ReadBlock { adr });
         all.push(Request::WriteBlock { adr, bytes: legal });
@@ -106,7 +107,7 @@ fn room_exactly_equal_is_enough() {
 fn the_reader_refuses() {
     let ask = Request::ReadRecords { k: 5 };
     let judge = |reply: &[u8]| read(Kind::Standard, 1, &ask, reply).map(|read| read.status);
-    let one = |count: u8| [&[0, 0, count][..], &[7; 13]].concat();
+    let one = |count: u8| [&[0, 0, count][..], &[7; RECORD]].concat();
     let sealed = |kind, address, control, rest: &[u8]| judge(&seal(kind, address, control, rest));
     assert_eq!(sealed(Kind::Standard, 1, 0x22, &one(1)), Ok(0));
     assert_eq!(sealed(Kind::Standard, 1, 0x22, &one(2)), Err(Refusal::Reply));

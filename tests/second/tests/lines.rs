@@ -3,8 +3,9 @@
 use second::blocks::{Block, DEFAULTS};
 use second::frame::Refusal;
 use second::lines::{line, lines};
+use second::model::Record;
 
-const RECORD: [u8; 13] = [0xE0, 7, 0, 0, 1, 0x64, 0x5E, 0x37, 1, 2, 3, 0xE8, 0xFF];
+const RECORD: Record = [0xE0, 7, 0, 0, 1, 0x64, 0x5E, 0x37, 1, 2, 3, 0xE8, 0xFF];
 
 fn raw(change: impl Fn(&mut Block)) -> Vec<u8> {
     let mut block = DEFAULTS[7];

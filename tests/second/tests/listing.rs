@@ -1,8 +1,12 @@
 //! Lines of any length, in any pieces; and that random events reach it all.
 
 use second::coverage::Coverage;
+use second::frame::LONGEST;
 use second::gen::Gen;
 use second::listing::{event, Event, Line};
+
+/// The digits of a frame that is one octet too long: so much of a line is held.
+const HELD: usize = 2 * (LONGEST + 1);
 
 fn in_pieces(line: &[u8], size: usize) -> Event {
     let mut held = Line::default();
@@ -17,7 +21,7 @@ fn pieces_do_not_matter() {
         let line = gen.next_line();
         let whole = in_pieces(&line, line.len().max(1));
         assert_eq!(whole, in_pieces(&line, 7));
-        if line.len() <= 1686 {
+        if line.len() <= HELD {
             assert_eq!(whole, event(&line));
         }
     }
@@ -26,7 +30,7 @@ fn pieces_do_not_matter() {
 #[test]
 fn a_long_line_is_what_it_would_be_whole() {
     for (length, last) in
-        [(1685, b'0'), (1686, b'0'), (1687, b'0'), (1688, b'0'), (9000, b'0'), (9000, b'g'), (9001, b'F')]
+        [(HELD - 1, b'0'), (HELD, b'0'), (HELD + 1, b'0'), (HELD + 2, b'0'), (9000, b'0'), (9000, b'g'), (9001, b'F')]
     {
         let mut line = vec![b'0'; length];
         line[length - 1] = last;

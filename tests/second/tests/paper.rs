@@ -7,7 +7,7 @@ use second::lines::line;
 use second::listing::{event, serve, text};
 use second::model::{record, Depot};
 use second::place;
-use second::store::{self, SIZE};
+use second::store::{self, EEPROM, HEADER, RAM, ROW, SIZE};
 use second::timer::Timer;
 
 fn octets(hex: &str) -> Vec<u8> {
@@ -115,8 +115,8 @@ fn a_fresh_store_octet_for_octet() {
     let mut expected = vec![0; SIZE];
     expected[..6].copy_from_slice(&[0, 6, 0x22, 0x5E, 0, 0]);
     for desk in 0..8 {
-        let row = 6 + 1099 * desk;
-        for memory in [row, row + 224] {
+        let row = HEADER + ROW * desk;
+        for memory in [row + RAM, row + EEPROM] {
             expected[memory + 98..memory + 102].copy_from_slice(&[0x02, 0x20, 0x2C, 0x01]);
             expected[memory + 169] = 0x37;
         }

@@ -1,7 +1,8 @@
 //! Every rule of the soundness test, at its edge on both sides.
 
+use second::blocks::BLOCK_BYTES;
 use second::frame::Refusal;
-use second::place;
+use second::place::{self, REPLY_BUFFER};
 use second::store::*;
 
 const ROW3: usize = HEADER + 3 * ROW;
@@ -84,7 +85,7 @@ fn timers() {
 fn blocks_7() {
     let some = store(3);
     for memory in [RAM, EEPROM] {
-        let byte = |at, octet| with(&some, ROW3 + memory + 7 * 14 + at, &[octet]);
+        let byte = |at, octet| with(&some, ROW3 + memory + 7 * BLOCK_BYTES + at, &[octet]);
         assert!(byte(0, 0) && !byte(0, 1) && !byte(0, 3));
         assert!(byte(1, 0x80) && !byte(1, 0x81) && byte(3, 0) && !byte(3, 0x21));
         assert!(byte(13, 0x43) && !byte(13, 0x44) && !byte(13, 0x50));
@@ -109,8 +110,8 @@ fn refusals_rise() {
     let mut good = store(3);
     let mut bad = good.clone();
     bad[0] = 0xFF;
-    let mut short = [0; 841];
-    let mut out = [0; 842];
+    let mut short = [0; REPLY_BUFFER - 1];
+    let mut out = [0; REPLY_BUFFER];
     let wrong = [5, 9, 0x64, 0, 0];
     assert_eq!(place::frame(&mut bad, &[], &mut short), Err(Refusal::Store));
     assert_eq!(place::frame(&mut good, &[], &mut short), Err(Refusal::ReplyBuffer));

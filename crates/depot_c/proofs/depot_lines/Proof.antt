@@ -19,16 +19,9 @@ returns-2 c =
     let l = c .before .before .before in
     let f = l .before .before in
     past-length _ _ _ _ _ _ _ (f .before .if1 .left)
-    (record { answer = l .lines .result; code = c .written-code2 .ensures; wrote = rw (f .fourteen .ensures) at (l .lines .ensures) })
+    (record { answer = l .lines .result; code = c .written-code2 .ensures; wrote = rw (f .block-of .ensures) at (l .lines .ensures) })
 
 pub depot-lines-spec : {M : Type 1} → statement M
-depot-lines-spec =
-    tie.close
-    (tie.spec
-    (λ c κs. search needs)
-    returns
-    (λ c κs. search needs)
-    (λ c κs. search needs)
-    written-code-requires-2
-    (λ c. search needs)
-    returns-2)
+depot-lines-spec {M} =
+    let first = tie.spec {M = M} (λ c κs. search needs) returns (λ c κs. search needs) (λ c κs. search needs) written-code-requires-2 in
+    tie.close (first (λ c. search needs) returns-2)

@@ -2,6 +2,7 @@
 //! alone. Lines that are no event are left out, and it ends where frames and replies pass OCTETS octets.
 
 use runs::numbers;
+use second::place::REPLY_BUFFER;
 use second::gen::Gen;
 use second::listing::{event, serve, Answer, Event};
 use second::model::{Depot, Seen};
@@ -14,7 +15,7 @@ fn list(octets: &[u8]) -> String {
 
 fn event_text(event: &Event) -> String {
     match event {
-        Event::Frame(octets) => format!("frame ({}) 842", list(octets)),
+        Event::Frame(octets) => format!("frame ({}) {REPLY_BUFFER}", list(octets)),
         Event::Sighting { desk, uid, mask } => format!("sighting {desk} 0x{:X} {mask}", u64::from_be_bytes(*uid)),
         Event::Tick => "tick".into(),
         Event::NotRead => unreachable!("left out"),

@@ -1,17 +1,21 @@
 //! `hostile SEED COUNT`: COUNT random calls of the library on sound and damaged stores, with any frames, numbers and buffers.
 //! The second program decides what each must answer and leave; it ends with status 101 at the first difference.
 
+use depot::numbers::TOLD;
 use runs::*;
 use second::gen::Gen;
 use second::listing::{event, Event};
 use second::sides::{any_desk, any_octet, any_reply, any_request, interesting, zeros};
 use second::store::{load, SIZE};
+use second::blocks::{Block, BLOCK_BYTES};
+use second::model::Record;
+use second::place::REPLY_BUFFER;
 use second::{config_stories::any_block7, frame::Kind, host, lines, place};
 
 struct Hostile {
     gen: Gen,
     store: Vec<u8>,
-    refused: [u64; 9],
+    refused: [u64; 64],
     answered: u64,
 }
 
@@ -19,7 +23,7 @@ impl Hostile {
     fn new(seed: u64) -> Hostile {
         let mut store = vec![0; SIZE];
         place::fresh(&mut store).expect("the size is right");
-        Hostile { gen: Gen::new(seed), store, refused: [0; 9], answered: 0 }
+        Hostile { gen: Gen::new(seed), store, refused: [0; 64], answered: 0 }
     }
 
     fn turn(&mut self) {
@@ -50,7 +54,7 @@ impl Hostile {
     /// The next event of a long history.
     fn sound_store(&mut self) -> u64 {
         let event = self.next_event();
-        let (code, store) = self.compared(&self.store, &event, 842);
+        let (code, store) = self.compared(&self.store, &event, REPLY_BUFFER);
         self.store = store;
         code
     }
@@ -73,7 +77,7 @@ impl Hostile {
             _ => SIZE,
         };
         store.truncate(length);
-        let room = random.pick(&[0, 841, 842, 842, 842, 843, 1000]);
+        let room = random.pick(&[0, REPLY_BUFFER - 1, REPLY_BUFFER, REPLY_BUFFER, REPLY_BUFFER, REPLY_BUFFER + 1, 1000]);
         self.compared(&store, &event, room).0
     }
 
@@ -125,7 +129,7 @@ impl Hostile {
         let reply = any_reply(random, kind, desk as u8, &request);
         let start = kind.head() as u64 + 3;
         let wanted = host::read(kind, desk, &request, &reply)
-            .map_or_else(refused, |read| (1 << 32) + (u64::from(read.status) << 24) + (start << 16) + read.data.len() as u64);
+            .map_or_else(refused, |read| TOLD + (u64::from(read.status) << 24) + (start << 16) + read.data.len() as u64);
         let code = depot::raw::read(asked(kind, desk, &request, &bytes(&request)), &reply);
         assert_eq!(code, wanted, "read {kind:?} {desk} {request:?} {reply:02X?}");
         code
@@ -138,7 +142,7 @@ impl Hostile {
         let mut wanted = out.clone();
         let mut mine = Guarded::new(&out);
         let (code, answer) = if random.one_in(2) {
-            let record: [u8; 13] = std::array::from_fn(|_| random.octet());
+            let record: Record = std::array::from_fn(|_| random.octet());
             (octets_code(lines::line(&block, &record, &mut wanted)), depot::raw::line(&block, &record, mine.inner()))
         } else {
             let data = random.octets(random.pick(&[0, 1, 2, 14, 15, 28, 29, 41]));
@@ -150,14 +154,14 @@ impl Hostile {
     }
 }
 
-fn bytes(request: &host::Request) -> [u8; 14] {
+fn bytes(request: &host::Request) -> Block {
     match request {
         host::Request::WriteBlock { bytes, .. } => *bytes,
-        _ => [0; 14],
+        _ => [0; BLOCK_BYTES],
     }
 }
 
-fn asked<'a>(kind: Kind, desk: u64, request: &host::Request, bytes: &'a [u8; 14]) -> depot::raw::Asked<'a> {
+fn asked<'a>(kind: Kind, desk: u64, request: &host::Request, bytes: &'a Block) -> depot::raw::Asked<'a> {
     use host::Request::*;
     let (a, b, c) = match *request {
         Baud { value } => (value, 0, 0),
@@ -167,12 +171,15 @@ fn asked<'a>(kind: Kind, desk: u64, request: &host::Request, bytes: &'a [u8; 14]
         ReadRecords { k } => (k, 0, 0),
         _ => (0, 0, 0),
     };
-    depot::raw::Asked { kind: kind_number(kind), desk, control: request.control(), a, b, c, bytes }
+    depot::raw::Asked { kind: kind_number(kind), desk, control: request.control().into(), a, b, c, bytes }
 }
 
 fn main() {
     let [seed, count] = numbers("hostile SEED COUNT");
     let mut hostile = Hostile::new(seed);
     (0..count).for_each(|_| hostile.turn());
-    println!("{count} calls as the second program has them: {} answered, refused by number {:?}", hostile.answered, &hostile.refused[1..]);
+    println!("{count} calls as the second program has them: {} answered", hostile.answered);
+    for (number, times) in hostile.refused.iter().enumerate().filter(|(_, times)| **times > 0) {
+        println!("refused {number}: {times}");
+    }
 }

@@ -2,6 +2,7 @@
 //! each desk's answers and what is kept for it must be equal. It ends with status 101 at the first difference.
 
 use runs::*;
+use second::place::REPLY_BUFFER;
 use second::frame::judge_request;
 use second::gen::Gen;
 use second::listing::{event, Event};
@@ -25,10 +26,10 @@ fn heard(desk: u8, events: &[Event]) -> (Vec<(u64, Vec<u8>)>, Desk) {
     assert_eq!(depot::raw::fresh(&mut store), 0);
     let mut answers = Vec::new();
     for event in events {
-        let mut out = [0; 842];
+        let mut out = [0; REPLY_BUFFER];
         let code = library(&mut store, event, &mut out);
         if concerns(desk, event) {
-            let length = code.checked_sub(256).unwrap_or(0) as usize;
+            let length = depot::numbers::length(code).unwrap_or(0);
             answers.push((code, out[..length].to_vec()));
         }
     }

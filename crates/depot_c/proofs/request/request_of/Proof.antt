@@ -9,10 +9,11 @@ unfolding requestOf
 returns c =
     let i = c .before in
     let w = i .before in
-    let b = w .before .before in
-    rw (← c .kind-of .ensures, ← w .is-whole .ensures, ← i .ask-if .ensures, ← b .block-in .ensures)
+    let o = w .before in
+    let b = o .before .before in
+    rw (← c .kind-of .ensures, ← o .octet-of .ensures, ← w .is-whole .ensures, ← i .ask-if .ensures, ← b .block-in .ensures)
 
 pub request-of-spec : {M : Type 1} → statement M
 request-of-spec =
     tie.close
-    (tie.spec (λ c κs. search needs) (λ c κs. search needs) (λ c κs. search needs) (λ c κs. search needs) returns)
+    (tie.spec (λ c κs. search needs) (λ c κs. search needs) (λ c κs. search needs) (λ c κs. search needs) (λ c κs. search needs) returns)

@@ -1,0 +1,95 @@
+-- The ranges of the numbers share none of them, end before 2^64, and each answer's number stands in its own. Assumes nothing.
+use Prim.Native.Nat.{ℕ, _+_, _^_, _≤_, _<_}
+use mathlib.Core.Path.{_≡_, refl}
+use mathlib.Core.Bool.{Bool, true, false}
+use mathlib.Core.Logic.{⊎-elim}
+use native.Mathlib.Decide.{decLt}
+use native.Mathlib.Omega.{arith}
+use lib.Dec.{leb}
+use borrow.Author.Tests.{leb-true}
+use Rattle.octets.specs.Tests.{every}
+use Rattle.octets.specs.Areas.{clear}
+use Rattle.octets.proofs.Areas.{clear-apart}
+use Rattle.octets.proofs.Every.{every-at}
+use Rattle.frame.specs.declared.Refusal.{Refusal}
+use Rattle.frame.specs.declared.Refusal.the-variants.{Unsound, SmallBuffer, WrongLength, WrongCheck, NoDesk, OutOfRange, NoRoom, NotTheReply}
+use Rattle.frame.specs.Refusal.{numberOf}
+use Rattle.rules.specs.declared.Seen.{Seen}
+use Rattle.rules.specs.declared.Seen.the-variants.{Ignored, Lost, Recorded}
+use Rattle.depot.specs.declared.Answer.{Answer}
+use Rattle.depot.proofs.Short.{Short}
+use Rattle.rules.specs.declared.Written.{Written}
+use Rattle.reader.specs.declared.Told.{Told}
+use Rattle.reader.specs.declared.Reading.the-variants.{Sound}
+use Rattle.depot_c.specs.Codes.{Range, In, done, refused, sighted, ignored, told, written, rangeCount, rangeAt, codeOf, writtenCode, readCode}
+use Rattle.depot_c.proofs.Told.{Small}
+
+abbrev fromOf : ℕ → ℕ
+fromOf i = rangeAt i .from
+
+abbrev countOf : ℕ → ℕ
+countOf i = rangeAt i .count
+
+abbrev fits64 : ℕ → Bool
+fits64 i = leb (fromOf i + countOf i) (2 ^ 64)
+
+-- computed over the table
+pub ranges-clear : clear rangeCount fromOf countOf ≡ true
+unfolding every
+ranges-clear = refl
+
+ranges-end : every rangeCount fits64 ≡ true
+unfolding every
+ranges-end = refl
+
+pub range-fits : (i n : ℕ) → i < rangeCount → In (rangeAt i) n → n < 2 ^ 64
+range-fits i n h m = omega (arith, leb-true (fromOf i + countOf i) (2 ^ 64) (every-at rangeCount fits64 i ranges-end h), m .1)
+
+-- a number stands in one range at most
+pub one-range : (i j n : ℕ) → i < rangeCount → j < rangeCount → In (rangeAt i) n → In (rangeAt j) n → i ≡ j
+one-range i j n hi hj p q =
+    elim (decLt i j) [
+      | yes l ↦ absurd (never (omega arith))
+      | no l ↦
+          elim (decLt j i) [
+            | yes g ↦ absurd (never (omega arith))
+            | no g ↦ omega arith
+          ]
+    ]
+  where
+    never : (i ≡ j → ⊥) → ⊥
+    never ne = ⊎-elim (λ e. omega (arith, p .1, q .0)) (λ e. omega (arith, p .0, q .1)) (clear-apart rangeCount fromOf countOf ranges-clear i j hi hj ne)
+
+-- ---- each answer's number stands in the range of its kind
+
+pub number-in : (r : Refusal) → In refused (numberOf r)
+number-in Unsound = (omega arith, omega arith)
+number-in SmallBuffer = (omega arith, omega arith)
+number-in WrongLength = (omega arith, omega arith)
+number-in WrongCheck = (omega arith, omega arith)
+number-in NoDesk = (omega arith, omega arith)
+number-in OutOfRange = (omega arith, omega arith)
+number-in NoRoom = (omega arith, omega arith)
+number-in NotTheReply = (omega arith, omega arith)
+
+abbrev pub rangeOf : Answer → Range
+rangeOf Answer.Done = done
+rangeOf (Answer.Refused r) = refused
+rangeOf (Answer.Sighted Recorded) = sighted
+rangeOf (Answer.Sighted Lost) = sighted
+rangeOf (Answer.Sighted Ignored) = ignored
+rangeOf (Answer.Reply n) = written
+
+pub answer-in : (a : Answer) → Short a → In (rangeOf a) (codeOf a)
+answer-in Answer.Done h = (omega arith, omega arith)
+answer-in (Answer.Refused r) h = number-in r
+answer-in (Answer.Sighted Recorded) h = (omega arith, omega arith)
+answer-in (Answer.Sighted Lost) h = (omega arith, omega arith)
+answer-in (Answer.Sighted Ignored) h = (omega arith, omega arith)
+answer-in (Answer.Reply n) h = (omega arith, omega arith)
+
+pub written-in : (n : ℕ) → n < 2 ^ 63 → In written (writtenCode (Written.Octets n))
+written-in n h = (omega arith, omega arith)
+
+pub told-in : (t : Told) → Small t → In told (readCode (Sound t))
+told-in t h = (omega arith, omega (arith, h .status, h .start, h .len))

@@ -1,0 +1,4 @@
+pub mod Feeding
+pub mod Long
+pub mod Whole
+pub mod Rooms

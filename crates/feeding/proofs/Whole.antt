@@ -1,0 +1,153 @@
+-- What was read off is answered as the whole line is, however long it is. Assumes nothing.
+use Prim.Native.Nat.{ℕ, _-_, _≤_, _<_}
+use mathlib.Core.Path.{_≡_, refl, sym, ap, subst, _∙_}
+use mathlib.Core.Bool.{Bool, true, false, not, _&&_}
+use mathlib.Core.List.{List, []}
+use native.Mathlib.Decide.{decLt}
+use native.Mathlib.Omega.{arith}
+use borrow.Author.Tests.{lt-ltb, le-ltb, ne-eqb, eqb-true}
+use lib.ListN.{length, getD, take, drop}
+use lib.Dec.{eqb}
+use lib.Seq.{length-take-le, take-all}
+use Rattle.octets.specs.Tests.{allOf}
+use Rattle.octets.specs.Parts.{part}
+use Rattle.octets.specs.Numbers.{number}
+use Rattle.octets.proofs.Tests.{both}
+use Rattle.frame.specs.Shape.{replyRoom}
+use Rattle.rules.specs.Box.{Event}
+use Rattle.depot.specs.declared.Answer.{Answer}
+use Rattle.depot.specs.Called.{Called}
+use Rattle.feeding.specs.declared.Begun.{Begun}
+use Rattle.text.specs.Digits.{decimal, isHex, octetsOf}
+use Rattle.text.specs.Listing.{Line, frame, tick, notRead, odd, isTick, isSighting, sightingOf, otherLine, lineOf, Printed, printed}
+use Rattle.feeding.specs.Answered.{Answered}
+use Rattle.feeding.specs.Feeding.{Fed, readOff, ReadOff, heldRoom}
+use Rattle.text.proofs.Values.{bounds, octets-length}
+use Rattle.feeding.proofs.Long.{long-called}
+
+-- ---- the line that is read off, as the code finds out
+
+module _ (at : Begun) (held : List ℕ) where
+  module _ (bad : at .bad ≡ true) where
+    pub reads-long : at .over ≡ true → readOff at held ≡ notRead
+    unfolding readOff
+    reads-long e = rw (bad, e)
+
+    pub reads-other : at .over ≡ false → readOff at held ≡ otherLine (take (at .held) held)
+    unfolding readOff
+    reads-other e = rw (bad, e)
+
+  module _ (good : at .bad ≡ false) where
+    pub reads-odd : at .odd ≡ true → readOff at held ≡ notRead
+    unfolding readOff
+    reads-odd e = rw (good, e)
+
+    pub reads-frame : at .odd ≡ false → readOff at held ≡ frame (octetsOf (take (at .held) held))
+    unfolding readOff
+    reads-frame e = rw (good, e)
+
+-- ---- the line that a text is
+
+pub long-other : (s : List ℕ) → 20 < length s → otherLine s ≡ notRead
+unfolding otherLine isTick isSighting
+long-other s h = rw (ne-eqb (length s) 1 (λ e. omega arith), ne-eqb (length s) 20 (λ e. omega arith))
+
+module _ (s : List ℕ) where
+  pub other-tick : isTick s ≡ true → otherLine s ≡ tick
+  unfolding otherLine
+  other-tick e = rw e
+
+  pub other-sighting : isTick s ≡ false → isSighting s ≡ true → otherLine s ≡ sightingOf s
+  unfolding otherLine
+  other-sighting e q = rw (e, q)
+
+  pub other-none : isTick s ≡ false → isSighting s ≡ false → otherLine s ≡ notRead
+  unfolding otherLine
+  other-none e q = rw (e, q)
+
+  hex-odd : allOf isHex s ≡ true → odd s ≡ true → lineOf s ≡ notRead
+  unfolding lineOf
+  hex-odd p q = rw (p, q)
+
+  hex-even : allOf isHex s ≡ true → odd s ≡ false → lineOf s ≡ frame (octetsOf s)
+  unfolding lineOf
+  hex-even p q = rw (p, q)
+
+  no-hex : allOf isHex s ≡ false → lineOf s ≡ otherLine s
+  unfolding lineOf
+  no-hex p = rw p
+
+-- ---- a sighting
+
+pub sighting-facts : (s : List ℕ) → isSighting s ≡ true → (length s ≡ 20) × (0x30 ≤ getD s 1 0) × (getD s 1 0 ≤ 0x39)
+unfolding isSighting
+sighting-facts s e =
+    let size : Bool = eqb (length s) 20 in
+    let letter : Bool = eqb (getD s 0 0) 0x73 in
+    let digit : Bool = decimal (getD s 1 0) in
+    let three = both (size && letter && digit) (allOf isHex (drop 2 s)) e .0 in
+    let desk = bounds 0x30 0x39 (getD s 1 0) (both (size && letter) digit three .1) in
+    (eqb-true (length s) 20 (both size letter (both (size && letter) digit three .0) .0), desk .0, desk .1)
+
+pub sighting-answered : (s nine : List ℕ) (uid : ℕ) (store reply out : List ℕ) (a : Answer) (n : ℕ) (store′ out′ : List ℕ)
+    → nine ≡ octetsOf (drop 2 s) → uid ≡ number (part 0 8 nine) → Called (Event.sighting (getD s 1 0 - 0x30) uid (getD nine 8 0)) store [] a store′ []
+    → Printed (printed a reply) out n out′ → Answered (sightingOf s) store reply out n store′ reply out′
+unfolding sightingOf
+sighting-answered s nine uid store reply out a n store′ out′ e u q p = record { answers = (a, rw (u, e) at q, refl, p) }
+
+-- ---- both are answered alike
+
+module _ (s reply out : List ℕ) (n : ℕ) (s′ reply′ out′ : List ℕ) where
+  abbrev Ends : Line → Type 0
+  Ends l = Answered l s reply out n s′ reply′ out′
+
+  long-frames : (f g : List ℕ) → replyRoom < length f → replyRoom < length g → Ends (frame f) → Ends (frame g)
+  long-frames f g h l q =
+      record {
+        answers = (
+          q .answers .0,
+          long-called f g (length reply) s reply (q .answers .0) s′ reply′ h l (q .answers .1),
+          q .answers .2,
+        );
+      }
+
+  module _ (text : List ℕ) (at : Begun) (held : List ℕ) (f : Fed text at held) (room : heldRoom ≤ length held) where
+    -- the whole text is held
+    all-held : length text ≤ length held → take (at .held) held ≡ text
+    all-held h = f .held-is ∙ take-all (length held) text h
+
+    frames : Ends (frame (octetsOf (take (at .held) held))) → Ends (frame (octetsOf text))
+    frames q =
+        elim (decLt (length held) (length text)) [
+          | yes h ↦
+              let l : length (take (length held) text) ≡ length held = length-take-le (length held) text (omega arith) in
+              long-frames _ _
+              (omega (arith, octets-length (take (length held) text), l)) (omega (arith, octets-length text))
+              (subst (λ (xs : List ℕ). Ends (frame (octetsOf xs))) (f .held-is) q)
+          | no h ↦ subst (λ (xs : List ℕ). Ends (frame (octetsOf xs))) (all-held (omega arith)) q
+        ]
+
+    hex-whole : (b : Bool) → odd text ≡ b → allOf isHex text ≡ true → Ends (readOff at held) → Ends (lineOf text)
+    hex-whole true e p q = rw (hex-odd text p e) (rw (reads-odd at held (f .bad-is ∙ ap not p) (f .odd-is ∙ e)) at q)
+    hex-whole false e p q = rw (hex-even text p e) (frames (rw (reads-frame at held (f .bad-is ∙ ap not p) (f .odd-is ∙ e)) at q))
+
+    other-whole : allOf isHex text ≡ false → Ends (readOff at held) → Ends (lineOf text)
+    other-whole p q =
+        elim (decLt (length held) (length text)) [
+          | yes h ↦
+              rw (no-hex text p, long-other text (omega arith))
+              (rw (reads-long at held (f .bad-is ∙ ap not p) (f .over-is ∙ lt-ltb _ _ h)) at q)
+          | no h ↦
+              rw (no-hex text p)
+              (subst (λ (xs : List ℕ). Ends (otherLine xs)) (all-held (omega arith))
+              (rw (reads-other at held (f .bad-is ∙ ap not p) (f .over-is ∙ le-ltb (length held) (length text) (omega arith))) at q))
+        ]
+
+    either : (b : Bool) → allOf isHex text ≡ b → Ends (readOff at held) → Ends (lineOf text)
+    either true e q = hex-whole (odd text) refl e q
+    either false e q = other-whole e q
+
+  pub read-whole : (at : Begun) (held : List ℕ) (l : Line) → readOff at held ≡ l → Ends l → ReadOff at held s reply out n s′ reply′ out′
+  read-whole at held l e q =
+      let read : Ends (readOff at held) = subst Ends (sym e) q in
+      record { read = read; whole = λ text f room. either text at held f room (allOf isHex text) refl read }
