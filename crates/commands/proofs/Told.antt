@@ -19,7 +19,7 @@ use Rattle.rules.specs.Command.{passwordIs}
 use Rattle.store.specs.Rows.{eepromAt, timerAt, field, fields}
 use Rattle.store.specs.View.{deskOf, deskIn}
 use Rattle.store.proofs.Fields.{field-length}
-use Rattle.rows.specs.Fields.{ramField, eepromField}
+use Rattle.store.specs.Rows.{ramField, eepromField}
 use Rattle.rows.specs.Change.{Fit}
 
 module _ (row : List ℕ) where

@@ -17,7 +17,7 @@ ghost use Rattle.frame.specs.Shape.{replyRoom};
 ghost use Rattle.rules.specs.declared.RowCommand.{RowCommand};
 ghost use Rattle.rules.specs.Config.{blockCount, memorySize, blockAt};
 ghost use Rattle.store.specs.Rows.{field};
-ghost use Rattle.rows.specs.Fields.{ramField, eepromField};
+ghost use Rattle.store.specs.Rows.{ramField, eepromField};
 ghost use Rattle.rows.specs.Change.{Fit};
 ghost use Rattle.commands.specs.Obeyed.{Allowed, does, Quiet, Obeyed};
 

@@ -1,12 +1,3 @@
-pub mod Unknowns
-pub mod Doing
-pub mod LentRow
-pub mod Told
-pub mod NamedBlocks
 pub mod Answers
-pub mod Serves
-pub mod LentTable
-pub mod Removes
-pub mod Empties
-pub mod RowOctets
-pub mod TellsRecords
+pub mod Orders
+pub mod TableAnswers

@@ -1,2 +1,1 @@
 pub mod Obeyed
-pub mod Removal

@@ -1,51 +1,47 @@
--- `desk::serve::serve` meets its contract: unknown, or the row that the control byte finds. Assumes nothing.
-use mathlib.Core.Path.{sym, _∙_}
-use Rattle.desk.proofs.Serves.{plain-obeyed, listed-size, answered-unknown, answered-listed}
 use borrow.Author.Needs.{needs}
 use Rattle.desk.proofs.serve.serve.Statement.{statement}
 use Rattle.desk.proofs.serve.serve.Tie as tie
+use Rattle.desk.proofs.serve.serve.Reads as reads
+use Rattle.desk.proofs.serve.serve.Lts as lts
+use Rattle.commands.proofs.plain.Reads as plain-reads
+use Rattle.desk.proofs.serve.obey_terms.Reads as obey-terms-reads
+use Rattle.rules.proofs.control.decide.Reads as decide-reads
 
+-- src/serve.rt:101:11
 decide-requires : tie.Need-decide-requires
 decide-requires c κs = search needs
 
+-- src/serve.rt:102:27
 enum-told : tie.Need-enum-told
 enum-told c = search needs
 
+-- src/serve.rt:102:27
 plain-requires : tie.Need-plain-requires
 plain-requires c κs = search needs
 
-enum-known-row : tie.Need-enum-known-row
-enum-known-row c = search needs
+-- src/serve.rt:103:23
+enum-known-t : tie.Need-enum-known-t
+enum-known-t c = search needs
 
-obey-row-requires : tie.Need-obey-row-requires
-obey-row-requires c κs =
-    let w = c .before .before .before in
-    let e = w .before .before in
-    let z = e .before .before .before .before in
-    (z .pre .0, z .pre .1, listed-size (z .args .control) (w .row .given .0 .0) (sym (e .decide .ensures) ∙ w .row .given .1), z .pre .2)
+-- src/serve.rt:103:29
+obey-terms-requires : tie.Need-obey-terms-requires
+obey-terms-requires c κs = ?
 
+-- src/serve.rt:97:1
 returns : tie.Need-returns
-returns c =
-    let t = c .before in
-    let e = t .before .before in
-    let z = e .before .before .before .before in
-    let a = z .args in
-    plain-obeyed (a .d) (a .kind) 0x80 _ _ (a .s .now) (a .out .now) (z .pre .0) (z .pre .1) (c .plain .ensures)
-    (answered-unknown (a .kind) _ (a .control) (a .body .now) (sym (e .decide .ensures) ∙ t .enum-told .given .1))
+returns c = ?
 
+-- src/serve.rt:97:1
 same-length : tie.Need-same-length
 same-length c = search needs
 
+-- src/serve.rt:97:1
 same-length-2 : tie.Need-same-length-2
 same-length-2 c = search needs
 
+-- src/serve.rt:97:1
 returns-2 : tie.Need-returns-2
-returns-2 c =
-    let x = c .before .before .before .before in
-    let w = x .before .before .before .before in
-    let e = w .before .before in
-    let a = e .before .before .before .before .args in
-    rw (answered-listed (a .kind) _ (a .control) (a .body .now) (w .row .given .0 .0) (sym (e .decide .ensures) ∙ w .row .given .1)) (x .obey-row .ensures)
+returns-2 c = ?
 
 pub serve-spec : {M : Type 1} → statement M
 serve-spec =
@@ -54,8 +50,8 @@ serve-spec =
     decide-requires
     enum-told
     plain-requires
-    enum-known-row
-    obey-row-requires
+    enum-known-t
+    obey-terms-requires
     returns
     same-length
     same-length-2
