@@ -5,6 +5,7 @@ use mathlib.Core.Bool.{true}
 use mathlib.Core.List.{List, [], _++_}
 use mathlib.Core.Option.{Option, none, some}
 use lib.ListN.{length, take, drop}
+use borrow.Author.Tests.{eqb-true}
 use Rattle.octets.specs.Tests.{first}
 use Rattle.octets.specs.Each.{All, Octet}
 use Rattle.octets.specs.Parts.{put}
@@ -14,6 +15,7 @@ use Rattle.frame.specs.Shape.{dataAt}
 use Rattle.table.specs.Entries.{desks, recordsOf}
 use Rattle.rules.specs.declared.RowCommand.{RowCommand}
 use Rattle.rules.specs.declared.TableCommand.{TableCommand}
+use Rattle.rules.specs.declared.TableCommand.the-variants.{ReadRecords}
 use Rattle.rules.specs.declared.Command.{Command}
 use Rattle.rules.specs.declared.Command.the-variants.{OnRow, OnTable}
 use Rattle.rules.specs.Desk.{Desk}
@@ -27,7 +29,7 @@ use Rattle.store.specs.Sound.{sound}
 use Rattle.keeping.specs.Kept.{kept, Says}
 use Rattle.keeping.proofs.Rows.{kept-is, kept-legal, unchanged, lent-row, lent-back}
 use Rattle.commands.specs.declared.Reply.{Reply}
-use Rattle.commands.specs.Obeyed.{Told} 
+use Rattle.commands.specs.Obeyed.{Told}
 use Rattle.commands.specs.Obeyed as row
 use Rattle.desk.specs.Obeyed.{ruled, Obeyed, Sent, Quiet}
 
@@ -44,6 +46,23 @@ pub obeyed-as : (d : ℕ) (kind : Kind) (res : Result) (status : ℕ) (sent : Li
 unfolding result
 obeyed-as d kind res status sent desk′ r s s′ out out′ q p o says =
     record { told = told-as kind res status sent desk′ r out out′ q p o; says = rw q says }
+
+-- ---- by the command, where it is known which
+
+pub sized-of : (a b : Command) (body : List ℕ) → a ≡ b → sizedFor a body ≡ true → sizedFor b body ≡ true
+sized-of a b body q e = rw q at e
+
+pub obeyed-of : (a b : Command) (d : ℕ) (kind : Kind) (body : List ℕ) (r : Reply) (s s′ out out′ : List ℕ) → a ≡ b
+    → Obeyed d kind (ruled b kind (kept d s) body) r s s′ out out′ → Obeyed d kind (ruled a kind (kept d s) body) r s s′ out out′
+obeyed-of a b d kind body r s s′ out out′ q o = rw q o
+
+pub obeyed-for : (a b : TableCommand) (d : ℕ) (kind : Kind) (body : List ℕ) (r : Reply) (s s′ out out′ : List ℕ) → a ≡ b
+    → Obeyed d kind (ruled (OnTable b) kind (kept d s) body) r s s′ out out′ → Obeyed d kind (ruled (OnTable a) kind (kept d s) body) r s s′ out out′
+obeyed-for a b d kind body r s s′ out out′ q o = obeyed-of (OnTable a) (OnTable b) d kind body r s s′ out out′ (ap OnTable q) o
+
+pub sized-two : (a : TableCommand) (body : List ℕ) → a ≡ ReadRecords → sizedFor (OnTable a) body ≡ true → length body ≡ 2
+unfolding sizedFor
+sized-two a body q e = eqb-true (length body) 2 (sized-of (OnTable a) (OnTable ReadRecords) body (ap OnTable q) e)
 
 module _ (s : List ℕ) (e : sound s ≡ true) (d : ℕ) (h : d < desks) where
   -- a status without data, and nothing changed

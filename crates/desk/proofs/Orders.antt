@@ -14,7 +14,7 @@ use Rattle.rules.specs.Control.{termsOf, known, sizedFor}
 use Rattle.rules.specs.Command.{result, tests, unless, obey, answered}
 use Rattle.desk.specs.Obeyed.{ruled}
 
-module _ (t : Terms) (own : t ≡ termsOf (t .command)) (kind : Kind) (desk : Desk) (body : List ℕ) where
+module _ (t : Terms) (own : t ≡ termsOf (t .command)) (body : List ℕ) where
   size-is : t .size ≡ termsOf (t .command) .size
   size-is = ap (λ (x : Terms). x .size) own
 
@@ -25,21 +25,18 @@ module _ (t : Terms) (own : t ≡ termsOf (t .command)) (kind : Kind) (desk : De
   unfolding sizedFor
   sized q = eq-eqb (length body) _ (q ∙ size-is)
 
+module _ (t : Terms) (own : t ≡ termsOf (t .command)) (kind : Kind) (desk : Desk) (body : List ℕ) where
   pub obey-length : (length body ≡ t .size → ⊥) → obey (Listed t) kind desk body ≡ result 0x81 [] desk
   unfolding obey tests first unless sizedFor
-  obey-length n = rw (ne-eqb (length body) (termsOf (t .command) .size) (λ q. n (rw size-is q)))
+  obey-length n = rw (ne-eqb (length body) (termsOf (t .command) .size) (λ q. n (rw (size-is t own body) q)))
 
-  pub obey-barred : length body ≡ t .size → t .login ≡ true → desk .loggedIn ≡ false → obey (Listed t) kind desk body ≡ result 0x13 [] desk
+  pub obey-barred : length body ≡ t .size → t .login && not (desk .loggedIn) ≡ true → obey (Listed t) kind desk body ≡ result 0x13 [] desk
   unfolding obey tests first unless
-  obey-barred q l b = rw (sized q, ← login-is, l, b)
+  obey-barred q b = rw (sized t own body q, ← login-is t own body, b)
 
-  pub obey-free : length body ≡ t .size → t .login ≡ false → obey (Listed t) kind desk body ≡ ruled (t .command) kind desk body
+  pub obey-ruled : length body ≡ t .size → t .login && not (desk .loggedIn) ≡ false → obey (Listed t) kind desk body ≡ ruled (t .command) kind desk body
   unfolding obey tests first
-  obey-free q l = rw (sized q, ← login-is, l)
-
-  pub obey-known : length body ≡ t .size → t .login ≡ true → desk .loggedIn ≡ true → obey (Listed t) kind desk body ≡ ruled (t .command) kind desk body
-  unfolding obey tests first
-  obey-known q l b = rw (sized q, ← login-is, l, b)
+  obey-ruled q b = rw (sized t own body q, ← login-is t own body, b)
 
 module _ (kind : Kind) (desk : Desk) (control : ℕ) (body : List ℕ) where
   pub answered-unknown : known control ≡ Unknown → answered kind desk control body ≡ result 0x80 [] desk

@@ -10,7 +10,7 @@ use rules::TableCommand;
 use rules::Terms;
 use rules::control;
 ghost use mathlib.Core.Path.{_≡_};
-ghost use mathlib.Core.Bool.{true};
+ghost use mathlib.Core.Bool.{true, not, _&&_};
 ghost use Prim.Native.Nat.{_≤_, _<_};
 ghost use lib.ListN.{length};
 ghost use Rattle.frame.specs.Shape.{replyRoom};
@@ -77,6 +77,17 @@ fn dispatch(
     }
 }
 
+// Whether the login that a command needs is missing.
+fn barred(s: &[u8], d: usize, login: bool) -> bool
+    requires { ⌜ (sound (now s) ≡ true) × (d < desks) ⌝ }
+    ensures { λ r. ⌜ r ≡ (login && not (kept d (now (s .entry)) .loggedIn)) ⌝ }
+{
+    if !login {
+        return false;
+    }
+    !keeping::marks_of(s, d).logged_in
+}
+
 // A command that is known, by its terms: data length, login, then its own rule.
 fn obey_terms(s: &mut [u8], d: usize, kind: Kind, t: Terms, body: &[u8], out: &mut [u8]) -> Reply
     requires { ⌜ (sound (now s) ≡ true) × (d < desks) × (t ≡ termsOf (t .command)) × (replyRoom ≤ length (now out)) ⌝ }
@@ -85,10 +96,8 @@ fn obey_terms(s: &mut [u8], d: usize, kind: Kind, t: Terms, body: &[u8], out: &m
     if body.len() != t.size {
         return plain(0x81);
     }
-    if t.login {
-        if !keeping::marks_of(s, d).logged_in {
-            return plain(0x13);
-        }
+    if barred(s, d, t.login) {
+        return plain(0x13);
     }
     let command = t.command;
     dispatch(s, d, kind, command, body, out)

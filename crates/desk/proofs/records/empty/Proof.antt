@@ -1,43 +1,29 @@
+-- `desk::records::empty` meets its contract. Assumes nothing.
+use Rattle.desk.proofs.TableAnswers.{bare-legal, emptied}
 use borrow.Author.Needs.{needs}
 use Rattle.desk.proofs.records.empty.Statement.{statement}
 use Rattle.desk.proofs.records.empty.Tie as tie
-use Rattle.desk.proofs.records.empty.Reads as reads
-use Rattle.desk.proofs.records.empty.Lts as lts
-use Rattle.commands.proofs.plain.Reads as plain-reads
-use Rattle.keeping.proofs.act.Reads as act-reads
-use Rattle.keeping.proofs.remove_first.Reads as remove-first-reads
 
--- src/records.rt:90:5
-act-requires : tie.Need-act-requires
-act-requires c κs = search needs
-
--- src/records.rt:91:33
-cast-remove-first : tie.Need-cast-remove-first
-cast-remove-first c = search needs
-
--- src/records.rt:91:5
 remove-first-requires : tie.Need-remove-first-requires
-remove-first-requires c κs = ?
+remove-first-requires c κs =
+    let a = c .before .before .before in
+    let z = a .before .before .before in
+    (a .act .ensures .still, z .pre .1, bare-legal _ (z .pre .0) _ (z .pre .1) _ (z .pre .2) _ (a .act .ensures))
 
--- src/records.rt:92:5
-plain-requires : tie.Need-plain-requires
-plain-requires c κs = search needs
-
--- src/records.rt:86:1
-same-length : tie.Need-same-length
-same-length c = search needs
-
--- src/records.rt:86:1
 returns : tie.Need-returns
-returns c = ?
+returns c =
+    let f = c .before .before .before in
+    let a = f .before .before .before .before in
+    let z = a .before .before .before in
+    emptied _ (z .pre .0) _ (z .pre .1) _ (z .pre .2) _ _ _ (c .plain .ensures) (a .act .ensures) (f .remove-first .ensures)
 
 pub empty-spec : {M : Type 1} → statement M
 empty-spec =
     tie.close
     (tie.spec
-    act-requires
-    cast-remove-first
+    (λ c κs. search needs)
+    (λ c. search needs)
     remove-first-requires
-    plain-requires
-    same-length
+    (λ c κs. search needs)
+    (λ c. search needs)
     returns)

@@ -1,69 +1,43 @@
+-- `desk::records::remove` meets its contract: those due go. Assumes nothing.
+use native.Mathlib.Omega.{arith}
+use Rattle.keeping.proofs.Rows.{kept-legal}
+use Rattle.desk.proofs.TableAnswers.{close-legal, short-bare, removed-done}
 use borrow.Author.Needs.{needs}
 use Rattle.desk.proofs.records.remove.Statement.{statement}
 use Rattle.desk.proofs.records.remove.Tie as tie
-use Rattle.desk.proofs.records.remove.Reads as reads
-use Rattle.desk.proofs.records.remove.Lts as lts
-use Rattle.commands.proofs.plain.Reads as plain-reads
-use Rattle.keeping.proofs.act.Reads as act-reads
-use Rattle.keeping.proofs.marks_of.Reads as marks-of-reads
-use Rattle.keeping.proofs.remove_first.Reads as remove-first-reads
 
--- src/records.rt:78:9
-marks-of-requires : tie.Need-marks-of-requires
-marks-of-requires c κs = search needs
-
--- src/records.rt:79:18
-cast-start : tie.Need-cast-start
-cast-start c = search needs
-
--- src/records.rt:79:35
-cast-start-2 : tie.Need-cast-start-2
-cast-start-2 c = search needs
-
--- src/records.rt:79:18
-add-start : tie.Need-add-start
-add-start c = search needs
-
--- src/records.rt:80:36
-cast-t13 : tie.Need-cast-t13
-cast-t13 c = search needs
-
--- src/records.rt:80:5
 act-requires : tie.Need-act-requires
-act-requires c κs = ?
+act-requires c κs =
+    let z = c .before .before .before .before .before .before in
+    (z .pre .0, z .pre .1, close-legal _ (kept-legal _ (z .pre .0) _ (z .pre .1)) _ (omega arith))
 
--- src/records.rt:81:33
-cast-remove-first : tie.Need-cast-remove-first
-cast-remove-first c = search needs
-
--- src/records.rt:81:5
 remove-first-requires : tie.Need-remove-first-requires
-remove-first-requires c κs = ?
+remove-first-requires c κs =
+    let a = c .before .before .before .before in
+    let m = a .before .before .before .before in
+    let z = m .before .before .before in
+    (a .act .ensures .still, z .pre .1, short-bare _ (z .pre .0) _ (z .pre .1) _ (m .marks-of .ensures) _ (a .act .ensures))
 
--- src/records.rt:82:5
-plain-requires : tie.Need-plain-requires
-plain-requires c κs = search needs
-
--- src/records.rt:74:1
-same-length : tie.Need-same-length
-same-length c = search needs
-
--- src/records.rt:74:1
 returns : tie.Need-returns
-returns c = ?
+returns c =
+    let f = c .before .before .before in
+    let a = f .before .before .before .before .before in
+    let m = a .before .before .before .before in
+    let z = m .before .before .before in
+    removed-done _ (z .pre .0) _ (z .pre .1) _ (m .marks-of .ensures) _ _ _ (c .plain .ensures) (a .act .ensures) (f .remove-first .ensures)
 
 pub remove-spec : {M : Type 1} → statement M
 remove-spec =
     tie.close
     (tie.spec
-    marks-of-requires
-    cast-start
-    cast-start-2
-    add-start
-    cast-t13
+    (λ c κs. search needs)
+    (λ c. search needs)
+    (λ c. search needs)
+    (λ c. search needs)
+    (λ c. search needs)
     act-requires
-    cast-remove-first
+    (λ c. search needs)
     remove-first-requires
-    plain-requires
-    same-length
+    (λ c κs. search needs)
+    (λ c. search needs)
     returns)

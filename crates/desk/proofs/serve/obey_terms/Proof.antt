@@ -1,63 +1,51 @@
+-- `desk::serve::obey_terms` meets its contract: one test after the other, then the command. Assumes nothing.
+use mathlib.Core.Path.{sym, _∙_}
+use native.Mathlib.Omega.{arith}
+use Rattle.keeping.specs.Kept.{kept}
+use Rattle.desk.proofs.Answers.{plain-obeyed}
+use Rattle.desk.proofs.Orders.{sized, obey-length, obey-barred, obey-ruled}
 use borrow.Author.Needs.{needs}
 use Rattle.desk.proofs.serve.obey_terms.Statement.{statement}
 use Rattle.desk.proofs.serve.obey_terms.Tie as tie
-use Rattle.desk.proofs.serve.obey_terms.Reads as reads
-use Rattle.desk.proofs.serve.obey_terms.Lts as lts
-use Rattle.commands.proofs.plain.Reads as plain-reads
-use Rattle.desk.proofs.serve.dispatch.Reads as dispatch-reads
-use Rattle.keeping.proofs.marks_of.Reads as marks-of-reads
 
--- src/serve.rt:86:9
-plain-requires : tie.Need-plain-requires
-plain-requires c κs = search needs
-
--- src/serve.rt:86:9
 returns : tie.Need-returns
-returns c = ?
+returns c =
+    let z = c .before .before .before .before .before .before in
+    plain-obeyed _ (z .pre .0) _ (z .pre .1) _ _ 0x81 _ _ (obey-length _ (z .pre .2) _ _ _ (c .before .if1 .taken)) (c .plain .ensures)
 
--- src/serve.rt:89:13
-marks-of-requires : tie.Need-marks-of-requires
-marks-of-requires c κs = search needs
-
--- src/serve.rt:90:13
-plain-requires-2 : tie.Need-plain-requires-2
-plain-requires-2 c κs = search needs
-
--- src/serve.rt:90:13
-same-length : tie.Need-same-length
-same-length c = search needs
-
--- src/serve.rt:90:13
 returns-2 : tie.Need-returns-2
-returns-2 c = ?
+returns-2 c =
+    let b = c .before .before in
+    let l = b .before .before in
+    let z = l .before .before .before .before .before in
+    plain-obeyed _ (z .pre .0) _ (z .pre .1) _ _ 0x13 _ _ (obey-barred _ (z .pre .2) _ _ _ (omega (arith, l .if1 .left)) (sym (b .barred .ensures) ∙ c .before .if2 .taken)) (c .plain2 .ensures)
 
--- src/serve.rt:94:5
 dispatch-requires : tie.Need-dispatch-requires
-dispatch-requires c κs = ?
+dispatch-requires c κs =
+    let l = c .before .before .before .before .before in
+    let z = l .before .before .before .before .before in
+    (z .pre .0, z .pre .1, sized _ (z .pre .2) _ (omega (arith, l .if1 .left)), z .pre .3)
 
--- src/serve.rt:81:1
-same-length-2 : tie.Need-same-length-2
-same-length-2 c = search needs
-
--- src/serve.rt:81:1
-same-length-3 : tie.Need-same-length-3
-same-length-3 c = search needs
-
--- src/serve.rt:81:1
 returns-3 : tie.Need-returns-3
-returns-3 c = ?
+returns-3 c =
+    let x = c .before .before .before .before in
+    let f = x .before .before .before in
+    let b = f .before in
+    let l = b .before .before in
+    let z = l .before .before .before .before .before in
+    rw (obey-ruled (z .args .t) (z .pre .2) (z .args .kind) (kept (z .args .d) (z .args .s .now)) (z .args .body .now) (omega (arith, l .if1 .left)) (sym (b .barred .ensures) ∙ f .if2 .left)) (x .dispatch .ensures)
 
 pub obey-terms-spec : {M : Type 1} → statement M
 obey-terms-spec =
     tie.close
     (tie.spec
-    plain-requires
+    (λ c κs. search needs)
     returns
-    marks-of-requires
-    plain-requires-2
-    same-length
+    (λ c κs. search needs)
+    (λ c κs. search needs)
+    (λ c. search needs)
     returns-2
     dispatch-requires
-    same-length-2
-    same-length-3
+    (λ c. search needs)
+    (λ c. search needs)
     returns-3)

@@ -1,57 +1,37 @@
+-- `desk::serve::on_row` meets its contract: the row is lent, obeys and is back. Assumes nothing.
+use native.Mathlib.Omega.{arith}
+use Rattle.octets.proofs.Each.{octets-each}
+use Rattle.keeping.proofs.Rows.{sound-size, lent-inside, lent-fit}
+use Rattle.desk.proofs.Answers.{row-obeyed}
 use borrow.Author.Needs.{needs}
 use Rattle.desk.proofs.serve.on_row.Statement.{statement}
 use Rattle.desk.proofs.serve.on_row.Tie as tie
-use Rattle.desk.proofs.serve.on_row.Reads as reads
-use Rattle.desk.proofs.serve.on_row.Lts as lts
-use Rattle.commands.proofs.obey.Reads as obey-reads
-use Rattle.store.proofs.row_at.Reads as row-at-reads
 
--- src/serve.rt:38:9
-row-at-requires : tie.Need-row-at-requires
-row-at-requires c κs = ?
-
--- src/serve.rt:39:31
-add-obey : tie.Need-add-obey
-add-obey c = search needs
-
--- src/serve.rt:39:20
-sub-obey : tie.Need-sub-obey
-sub-obey c = search needs
-
--- src/serve.rt:39:20
-part-obey-start : tie.Need-part-obey-start
-part-obey-start c = search needs
-
--- src/serve.rt:39:20
-part-obey-end : tie.Need-part-obey-end
-part-obey-end c = ?
-
--- src/serve.rt:39:5
 obey-requires : tie.Need-obey-requires
-obey-requires c κs = ?
+obey-requires c κs =
+    let r = c .before .before in
+    let z = r .before .before .before .before .before in
+    (lent-fit _ (z .pre .0) (z .args .d) (z .pre .1) _ (r .row-at .ensures .0), z .pre .2, z .pre .3)
 
--- src/serve.rt:27:1
-same-length : tie.Need-same-length
-same-length c = search needs
-
--- src/serve.rt:27:1
-same-length-2 : tie.Need-same-length-2
-same-length-2 c = search needs
-
--- src/serve.rt:27:1
 returns : tie.Need-returns
-returns c = ?
+returns c =
+    let x = c .before .before .before .before in
+    let r = x .before .before .before in
+    let k = r .before .before .before in
+    let z = k .before .before in
+    row-obeyed (z .args .s .now) (z .pre .0) (z .args .d) (z .pre .1) (r .row-at .result) (r .row-at .ensures .0) _ _ (z .args .body .now) _ (x .obey .last .0) _ _
+    (octets-each (z .args .body .now) (λ i. k .shared-slice-known .given i .fits)) (z .pre .2) (x .obey .ensures)
 
 pub on-row-spec : {M : Type 1} → statement M
 on-row-spec =
     tie.close
     (tie.spec
-    row-at-requires
-    add-obey
-    sub-obey
-    part-obey-start
-    part-obey-end
+    (λ c κs. let z = c .before .before .before .before in (z .pre .1, omega (arith, sound-size _ (z .pre .0))))
+    (λ c. search needs)
+    (λ c. search needs)
+    (λ c. search needs)
+    (λ c. let z = c .before .before .before .before .before in omega (arith, lent-inside _ (z .pre .0) (z .args .d) (z .pre .1) _ (c .row-at .ensures .0)))
     obey-requires
-    same-length
-    same-length-2
+    (λ c. search needs)
+    (λ c. search needs)
     returns)

@@ -1,58 +1,44 @@
+-- `desk::serve::serve` meets its contract. Assumes nothing.
+use mathlib.Core.Path.{sym, _∙_}
+use Rattle.keeping.specs.Kept.{kept}
+use Rattle.rules.proofs.Controls.{found-terms}
+use Rattle.desk.proofs.Answers.{plain-obeyed}
+use Rattle.desk.proofs.Orders.{answered-unknown, answered-listed}
 use borrow.Author.Needs.{needs}
 use Rattle.desk.proofs.serve.serve.Statement.{statement}
 use Rattle.desk.proofs.serve.serve.Tie as tie
-use Rattle.desk.proofs.serve.serve.Reads as reads
-use Rattle.desk.proofs.serve.serve.Lts as lts
-use Rattle.commands.proofs.plain.Reads as plain-reads
-use Rattle.desk.proofs.serve.obey_terms.Reads as obey-terms-reads
-use Rattle.rules.proofs.control.decide.Reads as decide-reads
 
--- src/serve.rt:101:11
-decide-requires : tie.Need-decide-requires
-decide-requires c κs = search needs
-
--- src/serve.rt:102:27
-enum-told : tie.Need-enum-told
-enum-told c = search needs
-
--- src/serve.rt:102:27
-plain-requires : tie.Need-plain-requires
-plain-requires c κs = search needs
-
--- src/serve.rt:103:23
-enum-known-t : tie.Need-enum-known-t
-enum-known-t c = search needs
-
--- src/serve.rt:103:29
 obey-terms-requires : tie.Need-obey-terms-requires
-obey-terms-requires c κs = ?
+obey-terms-requires c κs =
+    let t = c .before .before .before in
+    let k = t .before .before in
+    let z = k .before .before .before .before in
+    (z .pre .0, z .pre .1, found-terms _ _ (sym (k .decide .ensures) ∙ t .t .given .1), z .pre .2)
 
--- src/serve.rt:97:1
 returns : tie.Need-returns
-returns c = ?
+returns c =
+    let k = c .before .before .before in
+    let z = k .before .before .before .before in
+    plain-obeyed _ (z .pre .0) _ (z .pre .1) _ _ 0x80 _ _ (answered-unknown _ _ _ _ (sym (k .decide .ensures) ∙ c .before .enum-told .given .1)) (c .plain .ensures)
 
--- src/serve.rt:97:1
-same-length : tie.Need-same-length
-same-length c = search needs
-
--- src/serve.rt:97:1
-same-length-2 : tie.Need-same-length-2
-same-length-2 c = search needs
-
--- src/serve.rt:97:1
 returns-2 : tie.Need-returns-2
-returns-2 c = ?
+returns-2 c =
+    let x = c .before .before .before .before in
+    let t = x .before .before .before .before in
+    let k = t .before .before in
+    let z = k .before .before .before .before in
+    rw (answered-listed (z .args .kind) (kept (z .args .d) (z .args .s .now)) (z .args .control) (z .args .body .now) _ (sym (k .decide .ensures) ∙ t .t .given .1)) (x .obey-terms .ensures)
 
 pub serve-spec : {M : Type 1} → statement M
 serve-spec =
     tie.close
     (tie.spec
-    decide-requires
-    enum-told
-    plain-requires
-    enum-known-t
+    (λ c κs. search needs)
+    (λ c. search needs)
+    (λ c κs. search needs)
+    (λ c. search needs)
     obey-terms-requires
     returns
-    same-length
-    same-length-2
+    (λ c. search needs)
+    (λ c. search needs)
     returns-2)
