@@ -1,4 +1,4 @@
--- What a write leaves of the store: the facts of a sound one, the areas after a put, a row anew, the entries anew. Assumes nothing.
+-- The facts of a sound store, and its areas after a put. Assumes nothing.
 use Prim.Native.Nat.{ℕ, _+_, _≤_, _<_}
 use mathlib.Core.Path.{_≡_, refl}
 use mathlib.Core.List.{List}

@@ -60,7 +60,7 @@ same-places h h′ f p c =
 pub start-counted : (c : ℕ) (h : List ℕ) (j : ℕ) → j < areaCount → startOf (put usedAt (octets 2 c) h) j ≡ startOf h j
 unfolding startOf
 start-counted c h zero l = refl
-start-counted c h (suc j) l = u16At-away (j * 2) 4 (octets 2 c) h (inr (omega arith))
+start-counted c h (suc j) l = u16At-away (j * 2) usedAt (octets 2 c) h (inr (omega arith))
 
 pub used-counted : (c : ℕ) (h : List ℕ) → c ≤ entryCount → length h ≡ headerSize → usedOf (put usedAt (octets 2 c) h) ≡ c
 unfolding usedOf

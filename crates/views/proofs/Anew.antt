@@ -1,17 +1,16 @@
 -- A desk's row anew, or the entries anew: the store stays sound, and the view changes at that desk alone. Assumes nothing.
-use Prim.Native.Nat.{ℕ, zero, suc, _+_, _*_, _≤_, _<_}
+use Prim.Native.Nat.{ℕ, _+_, _*_, _≤_, _<_}
 use mathlib.Core.Path.{_≡_, sym, ap, _∙_}
-use mathlib.Core.List.{List, [], _∷_}
+use mathlib.Core.List.{List, []}
 use mathlib.Core.Bool.{true}
 use native.Mathlib.Nat.{add-zero, zero-add}
 use native.Mathlib.Omega.{arith}
 use lib.ListN.{length, getD, set, length-set}
-use lib.Dec.{lit<}
+use lib.Dec.{lit<, lit≤}
 use Rattle.octets.specs.Parts.{part, put, rows}
-use Rattle.octets.specs.Numbers.{octets}
+use Rattle.octets.specs.Numbers.{number, octets}
 use Rattle.octets.specs.Areas.{upto, change}
-use Rattle.octets.specs.Each.{All}
-use Rattle.octets.proofs.Each.{all-set}
+use Rattle.octets.proofs.Each.{all-getD, all-set}
 use Rattle.octets.proofs.Puts.{put-length, put-whole, part-length, part-put-same}
 use Rattle.octets.proofs.Rows.{rows-length, rows-put, rows-at}
 use Rattle.table.specs.Entries.{desks, entryCount, entries, recordsOf, ownersBelow}
@@ -19,17 +18,16 @@ use Rattle.rules.specs.Desk.{Desk, freshDesk}
 use Rattle.rules.specs.Box.{Box, deskAt}
 use Rattle.rules.proofs.Facts.{DeskLegal, BoxLegal}
 use Rattle.store.specs.Layout.{recounted, storeSize, rowWidth, sizeOf, header, startOf, usedOf, area, areas, rowAt, rowOf, headerArea, rowsArea, entriesArea, usedAt}
+use Rattle.store.specs.Rows.{field}
 use Rattle.store.specs.View.{deskIn, rowsIn, entriesIn, inUse, viewOf, view}
 use Rattle.store.proofs.LentAreas.{row-in}
 use Rattle.store.proofs.Places.{used-counted, counted-fine}
 use Rattle.views.proofs.Boxes.{box-at, box-row, box-records}
 use Rattle.store.proofs.Changes.{Flagged, Sound, area-length, into-area, header-kept, header-counted, header-length, into-count}
 
--- a rule of each element, at one of them
-all-at : {A : Type 0} (P : A → Type 0) (xs : List A) (i : ℕ) (x : A) → All P xs → i < length xs → P (getD xs i x)
-all-at P [] i x p l = absurd (omega arith)
-all-at P (y ∷ ys) zero x p l = p .0
-all-at P (y ∷ ys) (suc i) x p l = all-at P ys i x (p .1) (omega arith)
+none-flagged : Flagged []
+unfolding field part number
+none-flagged = record { login = lit≤ tt; mark = lit≤ tt }
 
 -- ---- the row of a desk
 
@@ -44,7 +42,7 @@ module _ (s : List ℕ) (f : Sound s) (d : ℕ) (h : d < desks) where
   row-length = part-length (rowAt d s) rowWidth s row-inside
 
   pub row-flags : Flagged (rowOf d s)
-  row-flags = rw (← row-is) (all-at Flagged (rowsIn (areas s)) d [] (f .flags) (omega (arith, rows-length desks rowWidth (getD (areas s) rowsArea []))))
+  row-flags = rw (← row-is) (all-getD Flagged (rowsIn (areas s)) d [] (f .flags) none-flagged)
 
   -- what the store says of the desk
   pub desk-is : deskAt (view s) d ≡ deskIn (rowOf d s) (recordsOf d (inUse s))

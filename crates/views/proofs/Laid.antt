@@ -4,7 +4,7 @@ use Prim.Native.Nat.{ℕ, _+_, _*_, _≤_, _<_}
 use mathlib.Core.Path.{_≡_, refl, sym, ap, ap₂, _∙_}
 use mathlib.Core.Bool.{true}
 use mathlib.Core.Logic.{inr}
-use mathlib.Core.List.{List, _++_}
+use mathlib.Core.List.{List}
 use native.Mathlib.Nat.{add-zero}
 use native.Mathlib.Omega.{arith}
 use lib.Dec.{lit<, lit≤}
@@ -13,11 +13,12 @@ use Rattle.octets.specs.Parts.{part, put, rows, joined}
 use Rattle.octets.specs.Numbers.{octets}
 use Rattle.octets.specs.Areas.{upto}
 use Rattle.octets.specs.Each.{All, Octet}
-use Rattle.octets.proofs.Each.{octets-put, octets-number, all-append}
+use Rattle.octets.proofs.Each.{octets-put, octets-number}
 use Rattle.octets.proofs.Puts.{put-length, part-length, part-put-away, part-put-in, part-put-same}
 use Rattle.octets.proofs.Rows.{Wide, length-joined, rows-joined}
 use Rattle.table.specs.Entries.{width, desks, entryCount, entries, ownersBelow}
-use Rattle.rules.proofs.Facts.{BoxLegal}
+use Rattle.rules.specs.Legal.{octet}
+use Rattle.rules.proofs.Facts.{BoxLegal, octets-facts}
 use Rattle.rules.proofs.Computed.{computed}
 use Rattle.store.specs.Layout.{storeSize, rowWidth, sizeOf, header, startOf, usedOf, area, areas, rowsArea, entriesArea, areaCount, headerSize, usedAt}
 use Rattle.store.specs.View.{boxFrom, rowsIn, entriesIn, viewOf, view}
@@ -41,11 +42,8 @@ unfolding computed laidHeader freshHeader
 none-used = refl
 
 fresh-octets : All Octet freshHeader
-unfolding freshHeader
-fresh-octets =
-    all-append Octet (octets 2 rowsBegin ++ octets 2 entriesBegin) (octets 2 0)
-    (all-append Octet (octets 2 rowsBegin) (octets 2 entriesBegin) (octets-number 2 rowsBegin) (octets-number 2 entriesBegin))
-    (octets-number 2 0)
+unfolding computed freshHeader octet
+fresh-octets = octets-facts freshHeader refl
 
 rows-start : startOf freshHeader rowsArea ≡ rowsBegin
 unfolding computed freshHeader startOf

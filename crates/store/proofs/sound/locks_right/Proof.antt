@@ -1,10 +1,10 @@
 -- `store::sound::locks_right` meets its contract. Assumes nothing.
 use mathlib.Core.Path.{refl}
-use lib.ListN.{length-take, length-drop}
+use lib.ListN.{getD, length-take, length-drop}
 use native.Mathlib.Omega.{arith}
 use borrow.Author.Tests.{lt-leb}
 use Rattle.octets.specs.Parts.{part}
-use Rattle.locks.specs.Locks.{locksLegal}
+use Rattle.locks.specs.Locks.{mostLocks, locksLegal}
 use Rattle.locks.proofs.Stored.{locks-in-length}
 use Rattle.store.specs.Rows.{validField, countField, field, countAt}
 use Rattle.store.proofs.FieldOctets.{field-octet, field-pair}
@@ -14,7 +14,9 @@ use Rattle.store.proofs.sound.locks_right.Tie as tie
 
 returns : tie.Need-returns
 unfolding locksLegal
-returns c = rw (field-octet (c .before .before .before .args .row .now) countField refl, locks-in-length, lt-leb _ _ (c .if1 .taken))
+returns c =
+    let row = c .before .before .before .args .row .now in
+    rw (field-octet row countField refl, locks-in-length, lt-leb (getD row countAt 0) mostLocks (omega arith))
 
 cast-legal : tie.Need-cast-legal
 cast-legal c = omega (arith, c .before .before .shared-slice-known2 .given countAt)
