@@ -117,8 +117,12 @@ module _ (body : List ℕ) where
   unfolding rowTests
   restore-below a one = named-below (getD body 0 0) (right (namesSome (getD body 0 0)) _ (a .passed)) one
 
--- ---- tests of 0x11
+-- ---- tests
 
+pub tests-as : {c c′ : RowCommand} (body : List ℕ) (status : ℕ) → c ≡ c′ → first (rowTests c′ body) ≡ said status → first (rowTests c body) ≡ said status
+tests-as body status e q = rw e q
+
+-- of 0x11
 pub one-test : (b : Bool) → first ((0x11, b) ∷ []) ≡ said (cond b 0x11 0)
 unfolding first said
 one-test true = refl
