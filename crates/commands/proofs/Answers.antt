@@ -34,10 +34,6 @@ pub part-whole : (n : ℕ) (s : List ℕ) → length s ≡ n → part 0 n s ≡ 
 unfolding part
 part-whole n s e = take-all n s (omega arith)
 
--- all behind the first n octets, as they are lent
-pub lent-rest : (n : ℕ) (s : List ℕ) → take (length s - n) (drop n s) ≡ drop n s
-lent-rest n s = take-all (length s - n) (drop n s) (omega (arith, length-drop n s))
-
 -- ---- answers
 
 module _ {answer : Desk → Result} {f : Desk → Desk} {row row′ : List ℕ} {r : Reply} where
@@ -84,7 +80,7 @@ module _ (c : RowCommand) (body : List ℕ) {r : Reply} {row out : List ℕ} {ki
   unfolding unless
   ruled-refused status q fit p = quiet {answer = ruled c body} status (change-none row fit) p (λ rs. rw q) .obeyed kind out
 
--- ---- what data that a command takes tell
+-- ---- the length of the data
 
 pub sized-size : (c : RowCommand) (body : List ℕ) → sizedFor (OnRow c) body ≡ true → length body ≡ termsOf (OnRow c) .size
 unfolding sizedFor
@@ -92,30 +88,6 @@ sized-size c body e = eqb-true (length body) (termsOf (OnRow c) .size) e
 
 pub sized-as : {c c′ : RowCommand} (body : List ℕ) → c ≡ c′ → sizedFor (OnRow c) body ≡ true → length body ≡ termsOf (OnRow c′) .size
 sized-as {c} {c′} body e s = sized-size c′ body (rw e at s)
-
-right : (b : Bool) (ts : List (ℕ × Bool)) → first ((0x11, not b) ∷ ts) ≡ none → b ≡ true
-right b ts e = not-false b (none-head 0x11 (not b) ts e)
-
-named-below : (adr : ℕ) → namesSome adr ≡ true → allBlocks adr ≡ false → blockOf adr < blockCount
-unfolding namesSome
-named-below adr e one = exists-below (blockOf adr) (rw one at e)
-
-module _ (body : List ℕ) where
-  pub read-below : Allowed ReadBlock body → blockOf (getD body 0 0) < blockCount
-  unfolding rowTests
-  read-below a = names-one _ (right (namesOne (getD body 0 0)) _ (a .passed))
-
-  pub write-below : Allowed WriteBlock body → blockOf (getD body 0 0) < blockCount
-  unfolding rowTests
-  write-below a = names-one _ (right (namesOne (getD body 0 0)) _ (a .passed))
-
-  pub save-below : Allowed SaveBlocks body → allBlocks (getD body 0 0) ≡ false → blockOf (getD body 0 0) < blockCount
-  unfolding rowTests
-  save-below a one = named-below (getD body 0 0) (not-false _ (or-right (inEeprom (getD body 0 0)) _ (none-head 0x11 _ [] (a .passed)))) one
-
-  pub restore-below : Allowed RestoreBlocks body → allBlocks (getD body 0 0) ≡ false → blockOf (getD body 0 0) < blockCount
-  unfolding rowTests
-  restore-below a one = named-below (getD body 0 0) (right (namesSome (getD body 0 0)) _ (a .passed)) one
 
 -- ---- tests
 

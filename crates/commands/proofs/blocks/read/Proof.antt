@@ -10,21 +10,17 @@ use Rattle.rules.specs.Command.{rowEffect}
 use Rattle.store.specs.Rows.{fields}
 use Rattle.store.specs.View.{deskOf}
 use Rattle.rows.proofs.Changes.{change-none}
-use Rattle.commands.proofs.Answers.{obeyed, read-below}
+use Rattle.commands.proofs.Answers.{obeyed}
+use Rattle.commands.proofs.Done.{read-names}
 use Rattle.commands.proofs.Told.{block-size}
 use Rattle.commands.proofs.blocks.read.Statement.{statement}
 use Rattle.commands.proofs.blocks.read.Tie as tie
-
-named-requires : tie.Need-named-requires
-named-requires c κs =
-    let z = c .before .before .before .before .before .before in
-    (z .pre .0, rw (c .block-of .ensures .0) (read-below (z .args .body .now) (z .pre .1)))
 
 size : (c : tie.After-named) → length (c .named .result .now) ≡ blockSize
 size c =
     let k = c .before in
     let z = k .before .before .before .before .before .before in
-    rw (c .named .ensures, k .block-of .ensures .0) (block-size _ (z .pre .0) (k .before .in-eeprom .result) _ (read-below (z .args .body .now) (z .pre .1)))
+    rw (c .named .ensures) (block-size _ (z .pre .0) (k .before .in-eeprom .result) _ (read-names _ (k .block-of .ensures .0) (z .pre .1)))
 
 copy-to-requires : tie.Need-copy-to-requires
 copy-to-requires c κs = omega (arith, size (c .before .before))
@@ -47,7 +43,7 @@ read-spec =
     (λ c. search needs)
     (λ c κs. search needs)
     (λ c κs. search needs)
-    named-requires
+    (λ c κs. search (needs, read-names))
     (λ c κs. search needs)
     copy-to-requires
     (λ c. search needs)
