@@ -1,28 +1,23 @@
 -- A command's answer from what is done to the row and told; its own tests, from their answers. Assumes nothing.
-use Prim.Native.Nat.{ℕ, _-_, _<_}
+use Prim.Native.Nat.{ℕ}
 use mathlib.Core.Path.{_≡_, refl, sym, ap, subst}
 use mathlib.Core.Bool.{Bool, true, false, cond, not}
 use mathlib.Core.List.{List, [], _∷_}
 use mathlib.Core.Option.{Option, none, some}
-use lib.ListN.{length, getD, take, drop, length-drop}
+use lib.ListN.{length}
 use native.Mathlib.Omega.{arith}
 use lib.Seq.{take-all}
-use borrow.Author.Tests.{not-false, eqb-true}
+use borrow.Author.Tests.{eqb-true}
 use Rattle.octets.specs.Tests.{first}
 use Rattle.octets.specs.Parts.{part, put}
-use Rattle.octets.proofs.Tests.{or-right, none-head}
 use Rattle.frame.specs.declared.Kind.{Kind}
 use Rattle.frame.specs.declared.Way.{Way}
 use Rattle.frame.specs.Shape.{dataAt}
 use Rattle.rules.specs.declared.RowCommand.{RowCommand}
-use Rattle.rules.specs.declared.RowCommand.the-variants.{ReadBlock, WriteBlock, SaveBlocks, RestoreBlocks}
 use Rattle.rules.specs.declared.Command.the-variants.{OnRow}
-use Rattle.rules.specs.Config.{blockCount, inEeprom, allBlocks, blockOf, namesOne, namesSome}
 use Rattle.rules.specs.Control.{termsOf, sizedFor}
 use Rattle.rules.specs.Desk.{Desk}
 use Rattle.rules.specs.Command.{Result, result, done, unless, rowTests}
-use Rattle.rules.proofs.Memories.{exists-below}
-use Rattle.rules.proofs.Legality.{names-one}
 use Rattle.store.specs.View.{deskIn}
 use Rattle.rows.specs.Change.{Fit, Change}
 use Rattle.rows.proofs.Changes.{change-none, change-as}

@@ -6,26 +6,33 @@ use mathlib.Core.List.{List, [], _∷_}
 use mathlib.Core.Option.{none}
 use native.Mathlib.Omega.{arith}
 use borrow.Author.Tests.{not-false}
-use lib.ListN.{length, getD, take, drop, length-drop}
+use lib.ListN.{length, take, drop, length-drop}
 use lib.Seq.{take-all}
 use Rattle.octets.specs.Tests.{first}
-use Rattle.octets.specs.Parts.{part, alike}
+use Rattle.octets.specs.Parts.{part, put, alike}
+use Rattle.octets.specs.Numbers.{Octets}
+use Rattle.octets.specs.Areas.{upto}
 use Rattle.octets.proofs.Tests.{or-right, none-head}
-use Rattle.rules.specs.declared.RowCommand.{RowCommand}
-use Rattle.rules.specs.declared.RowCommand.the-variants.{Reset, ReadBlock, WriteBlock, SaveBlocks, RestoreBlocks, SetTimer, Login}
+use Rattle.frame.specs.declared.Kind.{Kind}
+use Rattle.frame.specs.declared.Way.{Way}
+use Rattle.frame.specs.Shape.{dataAt}
+use Rattle.rules.specs.declared.RowCommand.the-variants.{Reset, ReadBlock, WriteBlock, SaveBlocks, RestoreBlocks, SetTimer, SendTimer, Login}
 use Rattle.rules.specs.Config.{blockSize, blockCount, allBlocks, blockOf, inEeprom, blockAt, namesOne, namesSome, copied, defaults}
+use Rattle.rules.specs.Desk.{memoryOf}
 use Rattle.rules.specs.Command.{adrOf, rowTests, done, rowEffect, passwordIs}
 use Rattle.rules.proofs.Memories.{exists-below, defaults-legal, length-block}
 use Rattle.rules.proofs.Legality.{names-one}
-use Rattle.store.specs.Rows.{eepromAt}
-use Rattle.store.specs.View.{deskIn}
+use Rattle.store.specs.Rows.{eepromAt, timerAt, field, fields}
+use Rattle.store.specs.View.{deskOf, deskIn}
+use Rattle.rows.specs.Fields.{ramField, eepromField}
 use Rattle.rows.specs.Change.{Fit}
 use Rattle.rows.specs.Row.{restartedRow, timerRow, loginRow, writtenRow, savedRow, allSavedRow, defaultRow}
+use Rattle.rows.proofs.Changes.{change-none}
 use Rattle.rows.proofs.Meaning.{restarted-change, timer-change, login-change, written-change, saved-change, all-saved-change, default-change}
 use Rattle.commands.specs.declared.Reply.{Reply}
-use Rattle.commands.specs.Obeyed.{Allowed, does, Quiet}
-use Rattle.commands.proofs.Answers.{quiet, done-quiet}
-use Rattle.commands.proofs.Told.{password-told}
+use Rattle.commands.specs.Obeyed.{Allowed, does, Obeyed, Quiet}
+use Rattle.commands.proofs.Answers.{obeyed, quiet, done-quiet}
+use Rattle.commands.proofs.Told.{password-told, timer-size, timer-told, block-size}
 
 -- all behind the first n octets, as they are lent
 lent-rest : (n : ℕ) (s : List ℕ) → take (length s - n) (drop n s) ≡ drop n s
@@ -78,9 +85,9 @@ module _ (body : List ℕ) {row row′ : List ℕ} {r : Reply} (fit : Fit row) w
     unfolding rowEffect
     reset-done back = rw back (done-quiet (restarted-change row fit) plain)
 
-    pub timer-done : Allowed SetTimer body → row′ ≡ timerRow body row → Quiet (does SetTimer body) r row row′
+    pub set-done : Allowed SetTimer body → row′ ≡ timerRow body row → Quiet (does SetTimer body) r row row′
     unfolding rowEffect
-    timer-done allowed back = rw back (done-quiet (timer-change body (allowed .size) row fit) plain)
+    set-done allowed back = rw back (done-quiet (timer-change body (allowed .size) row fit) plain)
 
     pub write-done : {loc : Bool} {k : ℕ} → Allowed WriteBlock body → loc ≡ inEeprom (adrOf body) → k ≡ blockOf (adrOf body)
         → row′ ≡ writtenRow loc k (take (length body - 1) (drop 1 body)) row → Quiet (does WriteBlock body) r row row′
@@ -110,3 +117,21 @@ module _ (body : List ℕ) {row row′ : List ℕ} {r : Reply} (fit : Fit row) w
         restore-one-done {k} allowed test is back =
             let l : k < blockCount = restore-names body is e test allowed in
             rw back (quiet 0 (written-change loc k (blockAt k defaults) l (length-block defaults defaults-legal k l) row fit) plain (λ rs. rw (sym e ∙ test, named, is)))
+
+-- ---- what is told
+
+module _ (body : List ℕ) {row bytes : List ℕ} {loc : Bool} {k : ℕ} (fit : Fit row) (allowed : Allowed ReadBlock body)
+    (named : loc ≡ inEeprom (adrOf body)) (is : k ≡ blockOf (adrOf body)) (lent : bytes ≡ blockAt k (cond loc (field row eepromField) (field row ramField))) where
+  pub read-size : length bytes ≡ blockSize
+  read-size = rw lent (block-size row fit loc k (read-names body is allowed))
+
+  pub read-done : {kind : Kind} {out out′ : List ℕ} {at : ℕ} → at ≡ dataAt Way.Reply kind → out′ ≡ put at bytes out
+      → Obeyed kind (does ReadBlock body) (record { status = 0; len = blockSize }) row row out out′
+  unfolding rowEffect memoryOf deskOf fields upto
+  read-done place back = obeyed 0 bytes (change-none row fit) (λ rs. rw (lent, named, is)) (rw read-size) (back ∙ rw place)
+
+pub send-done : {kind : Kind} {row out out′ : List ℕ} {at : ℕ} → Fit row → Octets row → at ≡ dataAt Way.Reply kind → out′ ≡ put at (take 4 (drop timerAt row)) out
+    → Obeyed kind (does SendTimer []) (record { status = 0; len = 4 }) row row out out′
+unfolding rowEffect part
+send-done {row = row} fit octet place back =
+    obeyed 0 (part timerAt 4 row) (change-none row fit) (λ rs. rw (timer-told row fit octet rs)) (rw (timer-size row fit)) (back ∙ rw place)

@@ -1,6 +1,6 @@
 -- `commands::clock::set_timer` meets its contract. Assumes nothing.
 use borrow.Author.Needs.{needs}
-use Rattle.commands.proofs.Done.{timer-done}
+use Rattle.commands.proofs.Done.{set-done}
 use Rattle.commands.proofs.clock.set_timer.Statement.{statement}
 use Rattle.commands.proofs.clock.set_timer.Tie as tie
 
@@ -11,4 +11,4 @@ set-timer-spec =
     (λ c κs. search needs)
     (λ c κs. search needs)
     (λ c. search needs)
-    (λ c. search timer-done))
+    (λ c. search set-done))
