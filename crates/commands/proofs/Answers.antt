@@ -1,28 +1,23 @@
 -- A command's answer from what is done to the row and told; its own tests, from their answers. Assumes nothing.
-use Prim.Native.Nat.{ℕ, _-_, _<_}
+use Prim.Native.Nat.{ℕ}
 use mathlib.Core.Path.{_≡_, refl, sym, ap, subst}
 use mathlib.Core.Bool.{Bool, true, false, cond, not}
 use mathlib.Core.List.{List, [], _∷_}
 use mathlib.Core.Option.{Option, none, some}
-use lib.ListN.{length, getD, take, drop, length-drop}
+use lib.ListN.{length}
 use native.Mathlib.Omega.{arith}
 use lib.Seq.{take-all}
-use borrow.Author.Tests.{not-false, eqb-true}
+use borrow.Author.Tests.{eqb-true}
 use Rattle.octets.specs.Tests.{first}
 use Rattle.octets.specs.Parts.{part, put}
-use Rattle.octets.proofs.Tests.{or-right, none-head}
 use Rattle.frame.specs.declared.Kind.{Kind}
 use Rattle.frame.specs.declared.Way.{Way}
 use Rattle.frame.specs.Shape.{dataAt}
 use Rattle.rules.specs.declared.RowCommand.{RowCommand}
-use Rattle.rules.specs.declared.RowCommand.the-variants.{ReadBlock, WriteBlock, SaveBlocks, RestoreBlocks}
 use Rattle.rules.specs.declared.Command.the-variants.{OnRow}
-use Rattle.rules.specs.Config.{blockCount, inEeprom, allBlocks, blockOf, namesOne, namesSome}
 use Rattle.rules.specs.Control.{termsOf, sizedFor}
 use Rattle.rules.specs.Desk.{Desk}
 use Rattle.rules.specs.Command.{Result, result, done, unless, rowTests}
-use Rattle.rules.proofs.Memories.{exists-below}
-use Rattle.rules.proofs.Legality.{names-one}
 use Rattle.store.specs.View.{deskIn}
 use Rattle.rows.specs.Change.{Fit, Change}
 use Rattle.rows.proofs.Changes.{change-none, change-as}
@@ -33,10 +28,6 @@ use Rattle.commands.specs.Obeyed.{said, Allowed, does, ruled, Obeyed, Qu
 pub part-whole : (n : ℕ) (s : List ℕ) → length s ≡ n → part 0 n s ≡ s
 unfolding part
 part-whole n s e = take-all n s (omega arith)
-
--- all behind the first n octets, as they are lent
-pub lent-rest : (n : ℕ) (s : List ℕ) → take (length s - n) (drop n s) ≡ drop n s
-lent-rest n s = take-all (length s - n) (drop n s) (omega (arith, length-drop n s))
 
 -- ---- answers
 
@@ -84,7 +75,7 @@ module _ (c : RowCommand) (body : List ℕ) {r : Reply} {row out : List ℕ} {ki
   unfolding unless
   ruled-refused status q fit p = quiet {answer = ruled c body} status (change-none row fit) p (λ rs. rw q) .obeyed kind out
 
--- ---- what data that a command takes tell
+-- ---- the length of the data
 
 pub sized-size : (c : RowCommand) (body : List ℕ) → sizedFor (OnRow c) body ≡ true → length body ≡ termsOf (OnRow c) .size
 unfolding sizedFor
@@ -93,32 +84,12 @@ sized-size c body e = eqb-true (length body) (termsOf (OnRow c) .size) e
 pub sized-as : {c c′ : RowCommand} (body : List ℕ) → c ≡ c′ → sizedFor (OnRow c) body ≡ true → length body ≡ termsOf (OnRow c′) .size
 sized-as {c} {c′} body e s = sized-size c′ body (rw e at s)
 
-right : (b : Bool) (ts : List (ℕ × Bool)) → first ((0x11, not b) ∷ ts) ≡ none → b ≡ true
-right b ts e = not-false b (none-head 0x11 (not b) ts e)
+-- ---- tests
 
-named-below : (adr : ℕ) → namesSome adr ≡ true → allBlocks adr ≡ false → blockOf adr < blockCount
-unfolding namesSome
-named-below adr e one = exists-below (blockOf adr) (rw one at e)
+pub tests-as : {c c′ : RowCommand} (body : List ℕ) (status : ℕ) → c ≡ c′ → first (rowTests c′ body) ≡ said status → first (rowTests c body) ≡ said status
+tests-as body status e q = rw e q
 
-module _ (body : List ℕ) where
-  pub read-below : Allowed ReadBlock body → blockOf (getD body 0 0) < blockCount
-  unfolding rowTests
-  read-below a = names-one _ (right (namesOne (getD body 0 0)) _ (a .passed))
-
-  pub write-below : Allowed WriteBlock body → blockOf (getD body 0 0) < blockCount
-  unfolding rowTests
-  write-below a = names-one _ (right (namesOne (getD body 0 0)) _ (a .passed))
-
-  pub save-below : Allowed SaveBlocks body → allBlocks (getD body 0 0) ≡ false → blockOf (getD body 0 0) < blockCount
-  unfolding rowTests
-  save-below a one = named-below (getD body 0 0) (not-false _ (or-right (inEeprom (getD body 0 0)) _ (none-head 0x11 _ [] (a .passed)))) one
-
-  pub restore-below : Allowed RestoreBlocks body → allBlocks (getD body 0 0) ≡ false → blockOf (getD body 0 0) < blockCount
-  unfolding rowTests
-  restore-below a one = named-below (getD body 0 0) (right (namesSome (getD body 0 0)) _ (a .passed)) one
-
--- ---- tests of 0x11
-
+-- of 0x11
 pub one-test : (b : Bool) → first ((0x11, b) ∷ []) ≡ said (cond b 0x11 0)
 unfolding first said
 one-test true = refl

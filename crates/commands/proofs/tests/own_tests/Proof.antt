@@ -4,7 +4,7 @@ use borrow.Author.Needs.{needs}
 use Rattle.octets.specs.Tests.{first}
 use Rattle.rules.specs.Command.{rowTests}
 use Rattle.commands.specs.Obeyed.{said}
-use Rattle.commands.proofs.Answers.{part-whole, sized-as, one-test}
+use Rattle.commands.proofs.Answers.{part-whole, sized-as, tests-as, one-test}
 use Rattle.commands.proofs.tests.own_tests.Statement.{statement}
 use Rattle.commands.proofs.tests.own_tests.Tie as tie
 
@@ -37,15 +37,6 @@ returns c = rw (c .before .before .enum-told .given .1, c .given .ensures) (one-
 returns-2 : tie.Need-returns-2
 unfolding first rowTests said
 returns-2 c = rw (c .enum-told2 .given .1)
-
-returns-3 : tie.Need-returns-3
-returns-3 c = rw (c .before .enum-told3 .given .1) (c .of-read .ensures)
-
-returns-4 : tie.Need-returns-4
-returns-4 c = rw (c .before .enum-told4 .given .1) (c .of-write .ensures)
-
-returns-5 : tie.Need-returns-5
-returns-5 c = rw (c .before .enum-told5 .given .1) (c .of-save .ensures)
 
 returns-6 : tie.Need-returns-6
 unfolding rowTests
@@ -91,9 +82,9 @@ own-tests-spec =
     (λ c. search needs)
     returns
     returns-2
-    returns-3
-    returns-4
-    returns-5
+    (λ c. search tests-as)
+    (λ c. search tests-as)
+    (λ c. search tests-as)
     returns-6
     returns-7
     returns-8
