@@ -31,7 +31,7 @@ extern "C" {
 /* ---- answers */
 
 /*
- * One number of 64 bits, and its range says what it is. No two ranges share a number (proved: crates/depot_c, Ranges).
+ * One number of 64 bits, and its range says what it is. No two ranges share a number (proved: crates/codes, Ranges).
  *
  *   from                     what
  *   0                        done, and there is nothing to say

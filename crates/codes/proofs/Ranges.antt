@@ -20,8 +20,8 @@ use Rattle.depot.proofs.Short.{Short}
 use Rattle.rules.specs.declared.Written.{Written}
 use Rattle.reader.specs.declared.Told.{Told}
 use Rattle.reader.specs.declared.Reading.the-variants.{Sound}
-use Rattle.depot_c.specs.Codes.{Range, In, done, refused, sighted, ignored, told, written, rangeCount, rangeAt, codeOf, writtenCode, readCode}
-use Rattle.depot_c.proofs.Told.{Small}
+use Rattle.codes.specs.Codes.{Range, In, done, refused, sighted, ignored, told, written, rangeCount, rangeAt, codeOf, writtenCode, readCode}
+use Rattle.codes.proofs.Told.{Small}
 
 abbrev fromOf : ℕ → ℕ
 fromOf i = rangeAt i .from
