@@ -12,10 +12,10 @@ const MADE: [u8; 68] = *b"
 ";
 
 // Where a line pokes, a copy of the store is tried.
-const RULES: [u8; 1220] = *b"
-The rows end at 24758, the entries at 16385; the entries begin in the last octet of the rows, the rows in that of the header.
-rows outside: poke 0000 3E 0001 5E
-entries outside: poke 0002 24 0003 01
+const RULES: [u8; 1221] = *b"
+The rows end at 40961, and so do the entries; the entries begin in the last octet of the rows, the rows in that of the header.
+rows outside: poke 0000 7D 0001 A9
+entries outside: poke 0002 84 0003 01
 entries in rows: poke 0003 5D
 rows in header: poke 0001 05
 
