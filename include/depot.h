@@ -22,7 +22,7 @@ extern "C" {
 
 /* ---- sizes, in octets */
 
-#define DEPOT_STORE_SIZE 16384  /* a store */
+#define DEPOT_STORE_SIZE 40960  /* a store */
 #define DEPOT_REPLY_SIZE 842    /* the shortest output that depot_frame takes; the longest frame */
 #define DEPOT_BLOCK_SIZE 14     /* a configuration block */
 #define DEPOT_RECORD_SIZE 13    /* a record: UID 8, timer 4, antenna mask 1 */
@@ -31,7 +31,7 @@ extern "C" {
 /* ---- answers */
 
 /*
- * One number of 64 bits, and its range says what it is. No two ranges share a number (proved: crates/depot_c, Ranges).
+ * One number of 64 bits, and its range says what it is. No two ranges share a number (proved: crates/codes, Ranges).
  *
  *   from                     what
  *   0                        done, and there is nothing to say

@@ -1,7 +1,7 @@
 //! The numbers of `include/depot.h`: sizes in octets, and the ranges of the codes.
 
 /// The octets of a store.
-pub const STORE_SIZE: usize = 16384;
+pub const STORE_SIZE: usize = 40960;
 
 /// The octets of the longest frame, and so of the buffer for a reply.
 pub const REPLY_SIZE: usize = 842;

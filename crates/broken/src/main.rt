@@ -1,5 +1,6 @@
 // Stores that break one rule of soundness each: every call refuses them with 1, and all octets are kept. `show` says how a
 // line of a script reads.
+use frame::Advanced;
 
 // A sound store: desk 0 is logged in and holds 5 records and locks, desk 1 one.
 const MADE: [u8; 68] = *b"
@@ -11,10 +12,10 @@ const MADE: [u8; 68] = *b"
 ";
 
 // Where a line pokes, a copy of the store is tried.
-const RULES: [u8; 1220] = *b"
-The rows end at 24758, the entries at 16385; the entries begin in the last octet of the rows, the rows in that of the header.
-rows outside: poke 0000 3E 0001 5E
-entries outside: poke 0002 24 0003 01
+const RULES: [u8; 1221] = *b"
+The rows end at 40961, and so do the entries; the entries begin in the last octet of the rows, the rows in that of the header.
+rows outside: poke 0000 7D 0001 A9
+entries outside: poke 0002 84 0003 01
 entries in rows: poke 0003 5D
 rows in header: poke 0001 05
 
@@ -76,8 +77,8 @@ fn ask(line: &[u8], store: &mut [u8], out: &mut [u8]) {
 
 // A line: the name of the store, what the three calls say to it, and whether all octets are as before.
 fn probe(name: &[u8], store: &mut [u8], out: &mut [u8]) {
-    let mut before = [0u8; 16385];
-    let mut noted = [0u8; 842];
+    let mut before = [0u8; store::SIZE + 1];
+    let mut noted = [0u8; Advanced::LONGEST];
     show::place(&mut before, 0, store);
     show::place(&mut noted, 0, out);
     show::name(name);
@@ -88,15 +89,15 @@ fn probe(name: &[u8], store: &mut [u8], out: &mut [u8]) {
 }
 
 fn sizes(store: &[u8], out: &mut [u8]) {
-    let mut long = [0u8; 16385];
+    let mut long = [0u8; store::SIZE + 1];
     show::place(&mut long, 0, store);
     probe(b"one octet more", &mut long, out);
-    probe(b"one octet less", &mut long[..16383], out);
+    probe(b"one octet less", &mut long[..store::SIZE - 1], out);
 }
 
 // A copy of the store, with octets written.
 fn copy(line: &[u8], store: &[u8], out: &mut [u8]) {
-    let mut copy = [0u8; 16384];
+    let mut copy = [0u8; store::SIZE];
     show::place(&mut copy, 0, store);
     show::act(line, &mut copy, out);
     probe(line, &mut copy, out);
@@ -121,8 +122,8 @@ fn rules(script: &[u8], store: &mut [u8], out: &mut [u8]) {
 }
 
 fn main() {
-    let mut store = [0u8; 16384];
-    let mut out = [0x5Au8; 842];
+    let mut store = [0u8; store::SIZE];
+    let mut out = [0x5Au8; Advanced::LONGEST];
     show::play(&MADE, &mut store, &mut out);
     sizes(&store, &mut out);
     rules(&RULES, &mut store, &mut out);

@@ -1,4 +1,5 @@
 // A day of the box: two desks, 0 and 3, in one store. `show` says how a line of the script reads.
+use frame::Advanced;
 
 const DAY: [u8; 3088] = *b"
 A fresh store, a login, and a block in either memory.
@@ -112,7 +113,7 @@ no antenna: uid 00 00 E007000001645E37
 ";
 
 fn main() {
-    let mut store = [0u8; 16384];
-    let mut out = [0u8; 842];
+    let mut store = [0u8; store::SIZE];
+    let mut out = [0u8; Advanced::LONGEST];
     show::play(&DAY, &mut store, &mut out);
 }

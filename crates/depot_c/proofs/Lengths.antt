@@ -10,7 +10,7 @@ use Rattle.octets.specs.Tests.{first}
 use Rattle.frame.specs.declared.Refusal.{Refusal}
 use Rattle.frame.specs.declared.Refusal.the-variants.{OutOfRange}
 use Rattle.rules.specs.declared.Written.the-variants.{Refused}
-use Rattle.depot_c.specs.Codes.{writtenCode}
+use Rattle.codes.specs.Codes.{writtenCode}
 use Rattle.depot_c.specs.Coded.{notLong, WroteAs}
 
 module _ (size : ℕ) (s : List ℕ) (ts : List (Refusal × Bool)) where

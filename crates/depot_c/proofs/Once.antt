@@ -9,7 +9,7 @@ use Rattle.rules.specs.Box.{Event}
 use Rattle.rules.proofs.Output.{once as wrote-once}
 use Rattle.store.specs.View.{view}
 use Rattle.depot.proofs.Once.{once, made-once}
-use Rattle.depot_c.specs.Codes.{codeOf, writtenCode}
+use Rattle.codes.specs.Codes.{codeOf, writtenCode}
 use Rattle.depot_c.specs.Coded.{CalledAs, MadeAs, WroteAs}
 
 module _ (n m : ℕ) where

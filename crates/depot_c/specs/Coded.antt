@@ -19,7 +19,7 @@ use Rattle.requests.specs.declared.Request.{Request}
 use Rattle.requests.specs.Request.{requestFrame}
 use Rattle.maker.specs.Maker.{makerRefusals}
 use Rattle.lines.specs.Lines.{lineRefusals}
-use Rattle.depot_c.specs.Codes.{codeOf, writtenCode}
+use Rattle.codes.specs.Codes.{codeOf, writtenCode}
 
 -- the box: the number of an answer that `Called` allows, with store and output before and after
 pub record CalledAs (e : Event) (s out : List ℕ) (n : ℕ) (s′ out′ : List ℕ) : Type 0 where

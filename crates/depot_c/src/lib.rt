@@ -17,11 +17,10 @@ ghost use Rattle.rules.specs.Box.{Event};
 ghost use Rattle.rules.specs.Line.{line};
 ghost use Rattle.lines.specs.Lines.{linesOf};
 ghost use Rattle.reader.specs.Reader.{readAs};
-ghost use Rattle.depot_c.specs.Codes.{readCode};
+ghost use Rattle.codes.specs.Codes.{readCode};
 ghost use Rattle.depot_c.specs.Numbers.{octetOf, requestOf};
 ghost use Rattle.depot_c.specs.Coded.{CalledAs, MadeAs, WroteAs, FramedAs, lineTests, linesTests};
 
-mod codes;
 mod request;
 
 // ---- the box

@@ -2,6 +2,8 @@
 // the buffer but those written hold the mark that they held. `hosted` says how a line of the script reads.
 
 // The maker.
+use frame::Advanced;
+
 const MAKER: [u8; 4251] = *b"
 Desks; and tests run in rising number.
 desk 7: room 40 standard 7 63
@@ -291,8 +293,8 @@ header 4: dump 40 00202C01000000005B68645D0040
 ";
 
 fn main() {
-    let mut store = [0u8; 16384];
-    let mut out = [0u8; 842];
+    let mut store = [0u8; store::SIZE];
+    let mut out = [0u8; Advanced::LONGEST];
     hosted::play(&MAKER, &mut store, &mut out);
     hosted::play(&READER, &mut store, &mut out);
     hosted::play(&LINES, &mut store, &mut out);

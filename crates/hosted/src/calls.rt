@@ -6,6 +6,7 @@ use depot::Answer;
 use reader::Told;
 use requests::Ask;
 use requests::Request;
+use rules::BLOCK;
 use rules::Written;
 use show::Said;
 
@@ -40,14 +41,14 @@ pub fn call(text: &[u8], store: &mut [u8], out: &mut [u8]) {
 }
 
 // Block 7 of the desk that a request names, in RAM.
-fn seven(q: Request, store: &mut [u8], out: &mut [u8]) -> [u8; 14] {
+fn seven(q: Request, store: &mut [u8], out: &mut [u8]) -> [u8; BLOCK] {
     let kind = q.kind;
     let t = ask(
         Request {
             kind: kind,
             desk: q.desk,
             ask: Ask::ReadBlock(7),
-            bytes: [0; 14],
+            bytes: [0; BLOCK],
         },
         store,
         out,
@@ -57,7 +58,7 @@ fn seven(q: Request, store: &mut [u8], out: &mut [u8]) -> [u8; 14] {
 }
 
 // The lines of the records that the data of a reply carry.
-fn lined(block: [u8; 14], sent: &[u8]) {
+fn lined(block: [u8; BLOCK], sent: &[u8]) {
     let mut buf = [0u8; 2048];
     match lines::lines(block, sent, &mut buf) {
         Written::Refused(r) => tell::refused(r),

@@ -7,11 +7,12 @@ use crate::read::request;
 use crate::read::rest;
 use crate::tell;
 use rules::Written;
+use table::RECORD;
 
 const MARK: u8 = 0x5A;
 
 // The record of the paper's M12.
-const SIGHTED: [u8; 13] = *b"\xE0\x07\x00\x00\x01\x64\x5E\x37\x01\x02\x03\xE8\x01";
+const SIGHTED: [u8; RECORD] = *b"\xE0\x07\x00\x00\x01\x64\x5E\x37\x01\x02\x03\xE8\x01";
 
 // It, and another, as the data of a reply.
 const TWO: [u8; 28] =

@@ -2,6 +2,7 @@
 use frame::Kind;
 use requests::Ask;
 use requests::Request;
+use rules::BLOCK;
 ghost use Prim.Native.Nat.{_≤_};
 ghost use lib.ListN.{length};
 
@@ -54,8 +55,8 @@ pub fn number(text: &[u8]) -> u64 {
 }
 
 // The fourteen bytes that a text says.
-pub fn block(text: &[u8]) -> [u8; 14] {
-    let mut bytes = [0u8; 14];
+pub fn block(text: &[u8]) -> [u8; BLOCK] {
+    let mut bytes = [0u8; BLOCK];
     show::unhex(text, &mut bytes);
     bytes
 }

@@ -1,6 +1,7 @@
 // One list of events on two sound stores: one made fresh, and the same octets with the areas in another order. A line an event: what
 // the first answers, and whether the second answers the same, octet for octet. `show` says how a line of a script reads.
 use depot::Answer;
+use frame::Advanced;
 use rules::Seen;
 use show::Said;
 
@@ -34,14 +35,23 @@ records other desk: standard 01 22 0001
 system reset: standard 07 64
 table last desk: standard 07 31";
 
+// Where a fresh store has its rows and its entries, and where they are moved: the entries to the rows' place, the rows behind them
+// with a gap.
+const ROWS: usize = 6;
+
+const ENTRIES: usize = ROWS + table::DESKS * store::ROW;
+
+const BEHIND: usize = ROWS + store::TABLE + 100;
+
 // The octets of a store that was made fresh, with the entries right behind the header and the rows behind them.
 fn moved(to: &mut [u8], from: &[u8]) {
-    if from.len() < 16384 {
+    if from.len() < store::SIZE {
         return;
     }
-    show::place(to, 6, &from[8798..15966]);
-    show::place(to, 7274, &from[6..8798]);
-    show::place(to, 0, &[0x1C, 0x6A, 0, 6]);
+    show::place(to, ROWS, &from[ENTRIES..ENTRIES + store::TABLE]);
+    show::place(to, BEHIND, &from[ROWS..ENTRIES]);
+    show::place(to, 0, &octets::octets16(BEHIND as u16));
+    show::place(to, 2, &octets::octets16(ROWS as u16));
     show::place(to, 4, &from[4..6]);
 }
 
@@ -100,10 +110,10 @@ fn events(script: &[u8], store: &mut [u8], out: &mut [u8], other: &mut [u8], oth
 }
 
 fn main() {
-    let mut store = [0u8; 16384];
-    let mut out = [0u8; 842];
-    let mut other = [0u8; 16384];
-    let mut other_out = [0u8; 842];
+    let mut store = [0u8; store::SIZE];
+    let mut out = [0u8; Advanced::LONGEST];
+    let mut other = [0u8; store::SIZE];
+    let mut other_out = [0u8; Advanced::LONGEST];
     show::play(&MADE, &mut store, &mut out);
     moved(&mut other, &store);
     show::place(&mut other_out, 0, &out);

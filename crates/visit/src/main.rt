@@ -1,5 +1,6 @@
 // The host side run against the box: each command in both frame kinds, and lines at the end. A line a step: the request, the reply,
 // the status that the reader tells, and what the data say. `hosted` says how a line of the script reads.
+use frame::Advanced;
 
 const VISIT: [u8; 3069] = *b"
 Before login, in standard frames.
@@ -114,7 +115,7 @@ records none: standard 1 22 1
 ";
 
 fn main() {
-    let mut store = [0u8; 16384];
-    let mut out = [0u8; 842];
+    let mut store = [0u8; store::SIZE];
+    let mut out = [0u8; Advanced::LONGEST];
     hosted::play(&VISIT, &mut store, &mut out);
 }

@@ -4,7 +4,7 @@ use crate::blocks::{block7_legal, Memory, BLOCKS, BLOCK_BYTES};
 use crate::model::{Depot, Desk, Lock, DESKS, LOCKS, RECORD, TAB_SIZE};
 use crate::timer::Timer;
 
-pub const SIZE: usize = 16384;
+pub const SIZE: usize = 40960;
 pub const HEADER: usize = 6;
 
 pub const ROW: usize = 1099;

@@ -1,7 +1,7 @@
 -- `depot_c::depot_lines` meets its contract: the length of the block, then the line writer. Assumes nothing.
 use native.Mathlib.Omega.{arith}
 use Rattle.depot_c.proofs.Lengths.{refused-length, past-length}
-use Rattle.depot_c.proofs.Fits.{lined-fits}
+use Rattle.codes.proofs.Fits.{lined-fits}
 use borrow.Author.Needs.{needs}
 use Rattle.depot_c.proofs.depot_lines.Statement.{statement}
 use Rattle.depot_c.proofs.depot_lines.Tie as tie

@@ -1,8 +1,8 @@
 -- `depot_c::depot_read` meets its contract: the number of what the reader answers to the request that the numbers name. Assumes nothing.
-use Rattle.depot_c.specs.Codes.{readCode}
+use Rattle.codes.specs.Codes.{readCode}
 use mathlib.Core.Path.{ap, _∙_}
 use native.Mathlib.Omega.{arith}
-use Rattle.depot_c.proofs.Fits.{read-fits}
+use Rattle.codes.proofs.Fits.{read-fits}
 use borrow.Author.Needs.{needs}
 use Rattle.depot_c.proofs.depot_read.Statement.{statement}
 use Rattle.depot_c.proofs.depot_read.Tie as tie

@@ -1,9 +1,8 @@
 -- `text::print::put_decimal` meets its contract: the digits that the kit makes are the fewest that hold the number. Assumes nothing.
-use mathlib.Core.Path.{ap, _∙_}
+use mathlib.Core.Path.{_∙_}
 use native.Mathlib.Omega.{arith}
 use borrow.Author.Needs.{needs}
-use lib.ListN.{length, length-take}
-use Rattle.octets.specs.Parts.{put}
+use lib.ListN.{length-take}
 use Rattle.text.proofs.Decimals.{places-most, places-are, digits-are, decimal-length}
 use Rattle.text.proofs.print.put_decimal.Statement.{statement}
 use Rattle.text.proofs.print.put_decimal.Tie as tie

@@ -1,10 +1,10 @@
--- `depot_c::codes::written_code` meets its contract. Assumes nothing.
+-- `codes::written_code` meets its contract. Assumes nothing.
 use mathlib.Core.Path.{sym, ap}
 use native.Mathlib.Omega.{arith}
-use Rattle.depot_c.specs.Codes.{writtenCode}
+use Rattle.codes.specs.Codes.{writtenCode}
 use borrow.Author.Needs.{needs}
-use Rattle.depot_c.proofs.codes.written_code.Statement.{statement}
-use Rattle.depot_c.proofs.codes.written_code.Tie as tie
+use Rattle.codes.proofs.written_code.Statement.{statement}
+use Rattle.codes.proofs.written_code.Tie as tie
 
 add-result : tie.Need-add-result
 add-result c = omega (arith, rw (c .before .w2 .given .1) at (c .before .before .before .pre))

@@ -1,10 +1,10 @@
--- `depot_c::codes::read_code` meets its contract. Assumes nothing.
+-- `codes::read_code` meets its contract. Assumes nothing.
 use mathlib.Core.Path.{sym, ap}
-use Rattle.depot_c.specs.Codes.{readCode}
+use Rattle.codes.specs.Codes.{readCode}
 use native.Mathlib.Omega.{arith}
 use borrow.Author.Needs.{needs}
-use Rattle.depot_c.proofs.codes.read_code.Statement.{statement}
-use Rattle.depot_c.proofs.codes.read_code.Tie as tie
+use Rattle.codes.proofs.read_code.Statement.{statement}
+use Rattle.codes.proofs.read_code.Tie as tie
 
 mul-result-2 : tie.Need-mul-result-2
 mul-result-2 c = omega (arith, rw (c .before .before .a2 .given .1) at (c .before .before .before .before .pre))

@@ -1,7 +1,7 @@
 -- How the answers of the calls become numbers of 64 bits: each kind of answer has a range of its own. Assumes nothing.
 use Prim.Native.Nat.{ℕ, _+_, _*_, _^_, _≤_, _<_}
 use mathlib.Core.List.{List, [], _∷_}
-use lib.ListN.{getD}
+use lib.ListN.{length, getD}
 use Rattle.frame.specs.Refusal.{numberOf}
 use Rattle.rules.specs.declared.Seen.{Seen}
 use Rattle.rules.specs.declared.Seen.the-variants.{Ignored, Lost, Recorded}
@@ -80,7 +80,7 @@ abbrev pub ranges : List Range
 ranges = done ∷ refused ∷ sighted ∷ ignored ∷ told ∷ asked ∷ found ∷ agrees ∷ differs ∷ misfiled ∷ waits ∷ complete ∷ dropped ∷ written ∷ []
 
 abbrev pub rangeCount : ℕ
-rangeCount = 14
+rangeCount = length ranges
 
 abbrev pub rangeAt : ℕ → Range
 rangeAt i = getD ranges i done

@@ -33,7 +33,7 @@ use Rattle.requests.specs.Request.{requestFrame}
 use Rattle.maker.specs.Maker.{makerRefusals, Requested}
 use Rattle.reader.specs.Reader.{reading, toldOf, readerRefusals, readAs}
 use Rattle.lines.specs.Lines.{lineRefusals, Lined}
-use Rattle.depot_c.specs.Codes.{seenCode, codeOf, writtenCode, readCode}
+use Rattle.codes.specs.Codes.{seenCode, codeOf, writtenCode, readCode}
 
 seen-small : (w : Seen) → seenCode w ≤ 2 ^ 16
 seen-small Ignored = omega arith

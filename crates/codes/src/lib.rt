@@ -1,11 +1,11 @@
-// The number of an answer.
+// The number of an answer: each kind of answer has a range of numbers of its own.
 use depot::Answer;
 use reader::Reading;
 use rules::Seen;
 use rules::Written;
 ghost use mathlib.Core.Path.{_≡_};
 ghost use Prim.Native.Nat.{_<_, _^_};
-ghost use Rattle.depot_c.specs.Codes.{seenCode, codeOf, writtenCode, readCode};
+ghost use Rattle.codes.specs.Codes.{seenCode, codeOf, writtenCode, readCode};
 
 const RECORDED: u64 = 64;
 

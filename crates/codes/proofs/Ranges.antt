@@ -1,7 +1,7 @@
 -- The ranges of the numbers share none of them, end before 2^64, and each answer's number stands in its own. Assumes nothing.
-use Prim.Native.Nat.{ℕ, _+_, _^_, _≤_, _<_}
+use Prim.Native.Nat.{ℕ, _+_, _^_, _<_}
 use mathlib.Core.Path.{_≡_, refl}
-use mathlib.Core.Bool.{Bool, true, false}
+use mathlib.Core.Bool.{Bool, true}
 use mathlib.Core.Logic.{⊎-elim}
 use native.Mathlib.Decide.{decLt}
 use native.Mathlib.Omega.{arith}
@@ -14,15 +14,14 @@ use Rattle.octets.proofs.Every.{every-at}
 use Rattle.frame.specs.declared.Refusal.{Refusal}
 use Rattle.frame.specs.declared.Refusal.the-variants.{Unsound, SmallBuffer, WrongLength, WrongCheck, NoDesk, OutOfRange, NoRoom, NotTheReply}
 use Rattle.frame.specs.Refusal.{numberOf}
-use Rattle.rules.specs.declared.Seen.{Seen}
 use Rattle.rules.specs.declared.Seen.the-variants.{Ignored, Lost, Recorded}
 use Rattle.depot.specs.declared.Answer.{Answer}
 use Rattle.depot.proofs.Short.{Short}
 use Rattle.rules.specs.declared.Written.{Written}
 use Rattle.reader.specs.declared.Told.{Told}
 use Rattle.reader.specs.declared.Reading.the-variants.{Sound}
-use Rattle.depot_c.specs.Codes.{Range, In, done, refused, sighted, ignored, told, written, rangeCount, rangeAt, codeOf, writtenCode, readCode}
-use Rattle.depot_c.proofs.Told.{Small}
+use Rattle.codes.specs.Codes.{Range, In, done, refused, sighted, ignored, told, written, rangeCount, rangeAt, codeOf, writtenCode, readCode}
+use Rattle.codes.proofs.Told.{Small}
 
 abbrev fromOf : ℕ → ℕ
 fromOf i = rangeAt i .from

@@ -19,7 +19,7 @@ use Rattle.requests.specs.declared.Request.{Request}
 use Rattle.reader.specs.declared.Told.{Told}
 use Rattle.reader.specs.declared.Reading.the-variants.{Sound}
 use Rattle.reader.specs.Reader.{reading, toldOf, readerRefusals, readAs}
-use Rattle.depot_c.proofs.Fits.{lead-small}
+use Rattle.codes.proofs.Fits.{lead-small}
 
 pub record Small (t : Told) : Type 0 where
   pub status : t .status < 256
