@@ -19,23 +19,12 @@ ghost use Rattle.sightings.specs.Sighted.{Sighted, Ticked};
 fn record_of(uid: u64, t: Timer, mask: u8) -> [u8; RECORD]
     ensures { λ r. ⌜ r ≡ recordOf uid t mask ⌝ }
 {
-    let u = octets::octets64(uid);
+    let mut r: [u8; RECORD] = [0; RECORD];
+    octets::put64(&mut r, 0, uid);
     let q = timer::octets_of(t);
-    [
-        u[0],
-        u[1],
-        u[2],
-        u[3],
-        u[4],
-        u[5],
-        u[6],
-        u[7],
-        q[0],
-        q[1],
-        q[2],
-        q[3],
-        mask,
-    ]
+    octets::copy_to(&mut r, 8, &q);
+    r[12] = mask;
+    r
 }
 
 // A UID that is not locked: lost where the desk's share is full, else recorded and locked.

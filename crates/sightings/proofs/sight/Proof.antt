@@ -8,7 +8,9 @@ use Rattle.sightings.proofs.sight.Statement.{statement}
 use Rattle.sightings.proofs.sight.Tie as tie
 
 -- what was found, among the locks of the desk
-told : (c : tie.After-lock-of) → let z = c .before .before .before in locked (z .args .uid) (kept (z .args .d) (z .args .s .now) .locks) ≡ isFound (c .lock-of .result)
+told : (c : tie.After-lock-of)
+    → let z = c .before .before .before in
+    locked (z .args .uid) (kept (z .args .d) (z .args .s .now) .locks) ≡ isFound (c .lock-of .result)
 told c = ap isFound (sym (c .lock-of .ensures))
 
 unlocked-requires : tie.Need-unlocked-requires

@@ -8,7 +8,10 @@ use borrow.Author.Needs.{needs}
 use Rattle.sightings.proofs.unlocked.Statement.{statement}
 use Rattle.sightings.proofs.unlocked.Tie as tie
 
-new : (c : tie.After-record-of) → let z = c .before .before .before .before .before .before .before .before in Recording (z .args .d) (z .args .uid) (z .args .mask) (c .record-of .result) (z .args .s .now)
+-- the record that was made is that of this sighting
+new : (c : tie.After-record-of)
+    → let z = c .before .before .before .before .before .before .before .before in
+    Recording (z .args .d) (z .args .uid) (z .args .mask) (c .record-of .result) (z .args .s .now)
 new c =
     let i = c .before .before .before .before in
     let z = i .before .before .before .before in
@@ -18,8 +21,12 @@ new c =
 
 act-requires : tie.Need-act-requires
 act-requires c κs =
-    let z = c .before .before .before .before .before in
-    (z .pre .0, z .pre .1, mark-legal (z .args .s .now) (z .pre .0) (z .args .d) (z .pre .1) (z .args .uid) (z .args .mask) (z .fits .uid .fits) (z .fits .mask .fits) (z .pre .2) (omega (arith, c .before .if1 .taken, c .before .before .held .ensures .0)))
+    let z = c .before .before .before .before .before in (
+      z .pre .0,
+      z .pre .1,
+      mark-legal (z .args .s .now) (z .pre .0) (z .args .d) (z .pre .1) (z .args .uid) (z .args .mask) (z .fits .uid .fits) (z .fits .mask .fits) (z .pre .2)
+          (omega (arith, c .before .if1 .taken, c .before .before .held .ensures .0)),
+    )
 
 returns : tie.Need-returns
 returns c =
