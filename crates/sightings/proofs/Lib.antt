@@ -1,4 +1,2 @@
-pub mod Saying
-pub mod NewRecord
 pub mod Sights
 pub mod Ticks

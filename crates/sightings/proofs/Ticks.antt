@@ -1,62 +1,21 @@
--- A tick of one desk, and of all desks one after the other. Assumes nothing.
+-- A tick of all desks, one after the other. Assumes nothing.
 use Prim.Native.Nat.{ℕ, zero, suc, _+_, _≤_, _<_}
-use mathlib.Core.Path.{_≡_, refl, sym, ap, _∙_}
+use mathlib.Core.Path.{_≡_, refl, ap, _∙_}
 use mathlib.Core.Bool.{true}
 use mathlib.Core.List.{List, [], _∷_, _++_, map, append-nil}
 use native.Mathlib.Numerals.{add-one}
 use native.Mathlib.Omega.{arith}
 use lib.ListN.{length, take, drop, set, getD, length-map, drop-of-length-le}
 use lib.Seq.{take-all}
-use Rattle.octets.specs.Parts.{put}
-use Rattle.octets.specs.Numbers.{Octets}
-use Rattle.octets.proofs.Numbers.{octets-part}
-use Rattle.octets.proofs.Puts.{put-length}
-use Rattle.timer.proofs.ReadBack.{timer-length}
-use Rattle.table.specs.Entries.{desks, recordsOf}
+use Rattle.table.specs.Entries.{desks}
 use Rattle.rules.specs.Desk.{freshDesk}
 use Rattle.rules.specs.Sighting.{ticked}
 use Rattle.rules.specs.Box.{deskAt}
-use Rattle.rules.proofs.Legality.{ticked-legal}
-use Rattle.store.specs.Layout.{rowWidth, rowAt, rowOf}
-use Rattle.store.specs.View.{inUse, view}
+use Rattle.store.specs.View.{view}
 use Rattle.store.specs.Sound.{sound}
-use Rattle.locks.specs.Locks.{sweptOf}
-use Rattle.rows.specs.Row.{locksOf, tickedRow, steppedRow, timerRow, sweptRow}
-use Rattle.desk.specs.Obeyed.{kept, Says}
-use Rattle.store.specs.Rows.{timerAt}
+use Rattle.keeping.specs.Kept.{kept, Says}
+use Rattle.keeping.proofs.Rows.{view-length}
 use Rattle.sightings.specs.Sighted.{Ticked}
-use Rattle.desk.proofs.Doing.{kept-is, row-size, row-flags, kept-legal, row-says}
-use Rattle.rows.proofs.Flagged.{Flags, timer-flags, locks-flags}
-use Rattle.rows.proofs.Meaning.{ticked-means}
-use Rattle.desk.proofs.LentRow.{few-locks}
-use Rattle.sightings.proofs.Saying.{view-length}
-
--- ---- a row
-
-swept-size : (row : List ℕ) → length (sweptRow row) ≡ length row
-unfolding sweptRow
-swept-size row = simp put-length
-
-pub ticked-size : (row : List ℕ) → length (tickedRow row) ≡ length row
-unfolding tickedRow steppedRow timerRow
-ticked-size row = put-length timerAt _ (sweptRow row) ∙ swept-size row
-
-ticked-flags : (row : List ℕ) → length row ≡ rowWidth → Flags row → Flags (tickedRow row)
-unfolding tickedRow steppedRow sweptRow
-ticked-flags row l f = timer-flags (sweptRow row) (swept-size row ∙ l) (locks-flags row l f (sweptOf (locksOf row))) _ (timer-length _)
-
--- ---- a desk
-
-pub row-ticked : (s : List ℕ) → sound s ≡ true → Octets s → (d : ℕ) → d < desks → Says d (ticked (kept d s)) s (put (rowAt d s) (tickedRow (rowOf d s)) s)
-row-ticked s e o d h =
-    let row : List ℕ = rowOf d s in
-    let l : length row ≡ rowWidth = row-size s e d h in
-    row-says s e d h (tickedRow row) (ticked (kept d s)) (ticked-size row ∙ l)
-    (ticked-means row l (recordsOf d (inUse s)) (octets-part (rowAt d s) rowWidth s o) (few-locks s e d h) ∙ ap ticked (sym (kept-is s e d h)))
-    (ticked-legal (kept d s) (kept-legal s e d h o))
-    (ticked-flags row l (row-flags s e d h))
-
--- ---- all desks
 
 -- a list after i turns: the first i as f makes them, the others as they were
 abbrev turned : {A : Type 0} → (A → A) → ℕ → List A → List A

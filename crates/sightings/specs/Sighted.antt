@@ -1,16 +1,13 @@
 -- What a sighting and a tick leave: the rules' outcome, and a sound store that says the rules' desks. Assumes nothing.
-use Prim.Native.Nat.{ℕ, _+_, _*_}
+use Prim.Native.Nat.{ℕ}
 use mathlib.Core.Path.{_≡_}
 use mathlib.Core.Bool.{true}
-use mathlib.Core.List.{List, _∷_, map}
-use Rattle.octets.specs.Parts.{put}
-use Rattle.table.specs.Entries.{width}
+use mathlib.Core.List.{List, map}
 use Rattle.rules.specs.declared.Seen.{Seen}
 use Rattle.rules.specs.Sighting.{seenAs, afterSeen, ticked}
-use Rattle.store.specs.Layout.{header, startOf, usedOf, area, recounted}
 use Rattle.store.specs.View.{view}
 use Rattle.store.specs.Sound.{sound}
-use Rattle.desk.specs.Obeyed.{kept, Says}
+use Rattle.keeping.specs.Kept.{kept, Says}
 
 pub record Sighted (d uid mask : ℕ) (seen : Seen) (s s′ : List ℕ) : Type 0 where
   pub seen-is : seen ≡ seenAs uid (kept d s)
@@ -20,9 +17,3 @@ pub record Sighted (d uid mask : ℕ) (seen : Seen) (s s′ : List ℕ) : Type 0
 pub record Ticked (s s′ : List ℕ) : Type 0 where
   pub still : sound s′ ≡ true
   pub view-is : view s′ ≡ map ticked (view s)
-
--- the store, octet for octet, with the record r of desk d behind the others
-unfoldable pub recordedIn : ℕ → List ℕ → List ℕ → List ℕ
-recordedIn d r s =
-    let n = usedOf (header s) in
-    recounted (n + 1) (put (startOf (header s) 2) (put (width * n) (d ∷ r) (area s 2)) s)

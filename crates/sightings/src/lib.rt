@@ -1,94 +1,63 @@
 // A sighting at a desk, and a tick of all desks.
-use desk::records::held;
 use locks::Found;
+use rows::Deed;
 use rules::Seen;
+use table::RECORD;
 use timer::Timer;
 ghost use mathlib.Core.Path.{_≡_};
-ghost use mathlib.Core.Bool.{true};
-ghost use mathlib.Core.List.{map};
+ghost use mathlib.Core.Bool.{true, false};
 ghost use Prim.Native.Nat.{_<_};
-ghost use lib.ListN.{length};
 ghost use Rattle.locks.specs.Locks.{locked};
-ghost use Rattle.table.specs.Entries.{recordsOf, share};
+ghost use Rattle.table.specs.Entries.{desks};
 ghost use Rattle.rules.specs.Records.{recordOf};
 ghost use Rattle.rules.specs.Sighting.{ticked};
-ghost use Rattle.store.specs.View.{inUse, view};
 ghost use Rattle.store.specs.Sound.{sound};
-ghost use Rattle.desk.specs.Obeyed.{kept, Says};
-ghost use Rattle.sightings.specs.Sighted.{Sighted, Ticked, recordedIn};
+ghost use Rattle.keeping.specs.Kept.{kept, Says};
+ghost use Rattle.sightings.specs.Sighted.{Sighted, Ticked};
 
 // UID 8, timer 4, antenna mask 1.
-fn record_of(uid: u64, t: Timer, mask: u8) -> [u8; 13]
+fn record_of(uid: u64, t: Timer, mask: u8) -> [u8; RECORD]
     ensures { λ r. ⌜ r ≡ recordOf uid t mask ⌝ }
 {
-    let u = octets::octets64(uid);
+    let mut r: [u8; RECORD] = [0; RECORD];
+    octets::put64(&mut r, 0, uid);
     let q = timer::octets_of(t);
-    [
-        u[0],
-        u[1],
-        u[2],
-        u[3],
-        u[4],
-        u[5],
-        u[6],
-        u[7],
-        q[0],
-        q[1],
-        q[2],
-        q[3],
-        mask,
-    ]
+    octets::copy_to(&mut r, 8, &q);
+    r[12] = mask;
+    r
 }
 
-// Whether the UID is locked at the desk.
-fn is_locked(s: &[u8], d: usize, uid: u64) -> bool
-    requires { ⌜ (sound (now s) ≡ true) × (d < 8) ⌝ }
-    ensures { λ r. ⌜ r ≡ locked uid (kept d (now (s .entry)) .locks) ⌝ }
+// A UID that is not locked: lost where the desk's share is full, else recorded and locked.
+fn unlocked(s: &mut [u8], d: usize, uid: u64, mask: u8) -> Seen
+    requires { ⌜ (sound (now s) ≡ true) × (d < desks) × (locked uid (kept d (now s) .locks) ≡ false) ⌝ }
+    ensures { λ r. ⌜ Sighted d uid mask r (now (s .entry)) (now (s .exit)) ⌝ }
 {
-    let at = store::row_at(s, d);
-    let n = s[at + store::LOCKED] as usize;
-    match locks::lookup_in(&s[at + store::LOCKS..at + store::ROW], n, uid) {
-        Found::At(_, _) => true,
-        Found::Nothing => false,
+    if table::SHARE as usize <= keeping::held(s, d) {
+        keeping::act(s, d, Deed::Mark);
+        return Seen::Lost;
     }
-}
-
-// A record goes behind those in use.
-fn put_record(s: &mut [u8], d: usize, r: [u8; 13])
-    requires { ⌜ (sound (now s) ≡ true) × (d < 8) × (length (recordsOf d (inUse (now s))) < share) ⌝ }
-    ensures { λ _. ⌜ now (s .exit) ≡ recordedIn d r (now (s .entry)) ⌝ }
-{
-    let at = store::start(s, 2);
-    let n = store::used(s);
-    table::append(&mut s[at..at + store::TABLE], n, d as u8, r);
-    octets::put16(s, 4, (n + 1) as u16);
+    let t = keeping::timer_of(s, d);
+    keeping::add_record(s, d, record_of(uid, t, mask));
+    keeping::act(s, d, Deed::Lock(uid));
+    Seen::Recorded
 }
 
 // The first rule that fits: ignored, lost, recorded.
 pub fn sight(s: &mut [u8], d: usize, uid: u64, mask: u8) -> Seen
-    requires { ⌜ (sound (now s) ≡ true) × (d < 8) ⌝ }
+    requires { ⌜ (sound (now s) ≡ true) × (d < desks) ⌝ }
     ensures { λ r. ⌜ Sighted d uid mask r (now (s .entry)) (now (s .exit)) ⌝ }
 {
-    if is_locked(s, d, uid) {
-        return Seen::Ignored;
+    match keeping::lock_of(s, d, uid) {
+        Found::At(_, _) => Seen::Ignored,
+        Found::Nothing => unlocked(s, d, uid, mask),
     }
-    let at = store::row_at(s, d);
-    if 64 <= held(s, d) {
-        rows::set_mark(&mut s[at..at + store::ROW]);
-        return Seen::Lost;
-    }
-    let t = timer::read(s, at + store::TIMER);
-    put_record(s, d, record_of(uid, t, mask));
-    rows::add_lock(&mut s[at..at + store::ROW], uid);
-    Seen::Recorded
 }
 
 fn tick_desk(s: &mut [u8], d: usize)
-    requires { ⌜ (sound (now s) ≡ true) × (d < 8) ⌝ }
+    requires { ⌜ (sound (now s) ≡ true) × (d < desks) ⌝ }
     ensures { λ _. ⌜ Says d (ticked (kept d (now (s .entry)))) (now (s .entry)) (now (s .exit)) ⌝ }
 {
-    let at = store::row_at(s, d);
-    rows::tick(&mut s[at..at + store::ROW]);
+    keeping::act(s, d, Deed::Tick);
 }
 
 // Every desk is ticked.
@@ -97,7 +66,7 @@ pub fn tick(s: &mut [u8])
     ensures { λ _. ⌜ Ticked (now (s .entry)) (now (s .exit)) ⌝ }
 {
     let mut d: usize = 0;
-    while d < 8 {
+    while d < table::DESKS {
         tick_desk(s, d);
         d += 1;
     }

@@ -3,7 +3,7 @@ use Prim.Native.Nat.{_-_, _≤_}
 use mathlib.Core.Path.{sym, _∙_}
 use native.Mathlib.Omega.{arith}
 use Rattle.table.specs.Entries.{desks}
-use Rattle.desk.proofs.LentRow.{sound-size}
+use Rattle.keeping.proofs.Rows.{sound-size}
 use Rattle.sightings.proofs.Ticks.{TickedTo, ticked-none, ticked-more, ticked-all}
 use borrow.Author.Needs.{needs}
 use Rattle.sightings.proofs.tick.Statement.{statement}
