@@ -24,7 +24,7 @@ use Rattle.rules.proofs.Memories.{exists-below, defaults-legal, length-block}
 use Rattle.rules.proofs.Legality.{names-one}
 use Rattle.store.specs.Rows.{eepromAt, timerAt, field, fields}
 use Rattle.store.specs.View.{deskOf, deskIn}
-use Rattle.rows.specs.Fields.{ramField, eepromField}
+use Rattle.store.specs.Rows.{ramField, eepromField}
 use Rattle.rows.specs.Change.{Fit}
 use Rattle.rows.specs.Row.{restartedRow, timerRow, loginRow, writtenRow, savedRow, allSavedRow, defaultRow}
 use Rattle.rows.proofs.Changes.{change-none}

@@ -9,6 +9,7 @@ use rules::adr::all_blocks;
 use rules::adr::block_of;
 use rules::adr::in_eeprom;
 use store::EEPROM;
+use store::RAM;
 ghost use mathlib.Core.Path.{_≡_};
 ghost use mathlib.Core.Bool.{cond};
 ghost use Prim.Native.Nat.{_≤_, _<_};
@@ -20,9 +21,6 @@ ghost use Rattle.store.specs.Rows.{field};
 ghost use Rattle.store.specs.Rows.{ramField, eepromField};
 ghost use Rattle.rows.specs.Change.{Fit};
 ghost use Rattle.commands.specs.Obeyed.{Allowed, does, Quiet, Obeyed};
-
-// RAM is the first field.
-const RAM: usize = 0;
 
 // The named block, as a part of the memory that LOC names.
 pub fn block<'a>(ram: &'a [u8], eeprom: &'a [u8], loc: bool, k: usize) -> &'a [u8]

@@ -7,6 +7,7 @@ use store::LOCKED;
 use store::LOCKS;
 use store::LOGIN;
 use store::MARK;
+use store::RAM;
 use store::TAB_START;
 use store::TIMER;
 use store::VALID;
@@ -21,9 +22,6 @@ ghost use Rattle.rows.specs.Change.{Fit, Change};
 ghost use Rattle.rows.specs.Deed.{doneBy};
 ghost use Rattle.rows.specs.Row.{restartedRow, midnightRow, unlockedRow, closedRow, markedRow, dueRow, loginRow, timerRow, memoryAt, writtenRow, savedRow, allSavedRow, lockedRow, sweptRow, steppedRow, tickedRow, defaultRow, clearedRow, systemRow};
 ghost use Rattle.rules.specs.Config.{blockSize, blockCount, memorySize, blockAt, defaults};
-
-// RAM is the first field.
-const RAM: usize = 0;
 
 // No locks stand.
 pub fn clear_locks(row: &mut [u8])
