@@ -1,5 +1,5 @@
 -- From what a call did to what it owes: one law for each way out. Assumes nothing.
-use Prim.Native.Nat.{ℕ, _+_, _≤_}
+use Prim.Native.Nat.{ℕ, _+_, _≤_, _<_}
 use mathlib.Core.Path.{_≡_, refl, ap, _∙_}
 use mathlib.Core.Bool.{true, false}
 use mathlib.Core.List.{List, _∷_}
@@ -8,7 +8,6 @@ use native.Mathlib.Omega.{arith}
 use lib.ListN.{length}
 use Rattle.octets.specs.Tests.{first}
 use Rattle.octets.specs.Parts.{put}
-use Rattle.octets.specs.Numbers.{Octets}
 use Rattle.frame.specs.declared.Way.the-variants.{Request, Reply}
 use Rattle.frame.specs.declared.Frame.{Frame}
 use Rattle.frame.specs.declared.Judged.the-variants.{Sound}
@@ -16,18 +15,20 @@ use Rattle.frame.specs.declared.Sealed.the-variants.{Octets as Octets′, Not}
 use Rattle.frame.proofs.Verdict.{sound-parts}
 use Rattle.frame.specs.declared.Refusal.{Refusal}
 use Rattle.frame.specs.declared.Refusal.the-variants.{Unsound}
-use Rattle.frame.specs.Shape.{shapeOf, overhead}
+use Rattle.frame.specs.Shape.{shapeOf, replyRoom, overhead}
 use Rattle.frame.specs.Judged.{judged, dataOf}
 use Rattle.frame.specs.Sealed.{frameOf, sealedAs, replyIn}
+use Rattle.table.specs.Entries.{desks}
 use Rattle.rules.specs.Control.{known}
 use Rattle.rules.specs.Command.{Result, answered}
 use Rattle.rules.specs.Box.{Event, frame, sighting, tick, request, served, sighted, placed, unlessRefused, frameRefusals, sightingRefusals, step}
 use Rattle.rules.proofs.Replies.{obey-carried}
 use Rattle.store.specs.Sound.{sound}
-use Rattle.desk.specs.declared.Reply.{Reply as DeskReply}
-use Rattle.desk.specs.Obeyed.{kept, Obeyed}
+use Rattle.keeping.specs.Kept.{kept}
+use Rattle.commands.specs.declared.Reply.{Reply as DeskReply}
+use Rattle.desk.specs.Obeyed.{Obeyed}
 use Rattle.sightings.specs.Sighted.{Sighted as DeskSighted, Ticked}
-use Rattle.desk.proofs.Doing.{kept-legal}
+use Rattle.keeping.proofs.Rows.{kept-legal}
 use Rattle.rules.specs.declared.Seen.{Seen}
 use Rattle.depot.specs.declared.Answer.the-variants.{Refused, Reply as Replied, Sighted, Done}
 use Rattle.rules.proofs.Refusals.{accepted}
@@ -51,18 +52,18 @@ sighting-refused n uid mask r s out q e = record { ended = rw (q, e) (refl, (ref
 -- ---- answered
 
 -- a reply: what the desk's command left, sealed
-module _ (f s s′ out out′ body : List ℕ) (p : Frame) (r : DeskReply) (q : sound s ≡ true) (octets : Octets s) (is : judged Request f ≡ Sound p) (room : 842 ≤ length out)
-    (low : p .address ≤ 7) (same : body ≡ dataOf p f)
+module _ (f s s′ out out′ body : List ℕ) (p : Frame) (r : DeskReply) (q : sound s ≡ true) (is : judged Request f ≡ Sound p) (room : replyRoom ≤ length out)
+    (low : p .address < desks) (same : body ≡ dataOf p f)
     (y : Obeyed (p .address) (p .kind) (answered (p .kind) (kept (p .address) s) (p .control) body) r s s′ out out′) where
   abbrev res : Result
   res = answered (p .kind) (kept (p .address) s) (p .control) body
 
   small : overhead Reply (p .kind) + length (res .sent) ≤ shapeOf (p .kind) .longest
   unfolding answered
-  small = obey-carried (known (p .control)) (p .kind) (kept (p .address) s) body (kept-legal s q (p .address) (omega arith) octets) .small
+  small = obey-carried (known (p .control)) (p .kind) (kept (p .address) s) body (kept-legal s q (p .address) low) .small
 
   whole : sealedAs Reply (p .kind) (r .len) out′ ≡ Octets′ (length (frameOf (p .kind) (p .address) (p .control) (res .status ∷ res .sent)))
-  whole = rw (y .done .len-is) (reply-size (p .kind) (p .address) (p .control) (res .status) (res .sent) out out′ room small (y .out-is))
+  whole = rw (y .told .len-is) (reply-size (p .kind) (p .address) (p .control) (res .status) (res .sent) out out′ room small (y .told .out-is))
 
   pub frame-sealed : sealedAs Reply (p .kind) (r .len) out′ ≡ Not → ⊥
   frame-sealed e = let z : _≡_ {A = ℕ} 0 1 = cc whole in omega arith
@@ -73,11 +74,11 @@ module _ (f s s′ out out′ body : List ℕ) (p : Frame) (r : DeskReply) (q : 
   frame-replied n out″ e o =
       let size : n ≡ length (frameOf (p .kind) (p .address) (p .control) (res .status ∷ res .sent)) = cc whole in
       let made : out″ ≡ put 0 (frameOf (p .kind) (p .address) (p .control) (res .status ∷ res .sent)) out =
-      o ∙ rw (y .done .len-is, y .done .status-is) (reply-octets (p .kind) (p .address) (p .control) (res .status) (res .sent) out out′ room small (y .out-is)) in
+      o ∙ rw (y .told .len-is, y .told .status-is) (reply-octets (p .kind) (p .address) (p .control) (res .status) (res .sent) out out′ room small (y .told .out-is)) in
       record {
         ended =
             rw (q, accepted f (length out) room p is low, ← sound-parts Request f p is, ← same)
-            (ap Replied size, made, (y .done .says .still, y .done .says .view-is));
+            (ap Replied size, made, (y .says .still, y .says .view-is));
       }
 
 pub sighting-answered : (n uid mask : ℕ) (w : Seen) (s s′ out : List ℕ) → sound s ≡ true → first (sightingRefusals n mask) ≡ none → DeskSighted n uid mask w s s′

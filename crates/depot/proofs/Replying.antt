@@ -11,20 +11,20 @@ use Rattle.frame.specs.declared.Kind.{Kind}
 use Rattle.frame.specs.declared.Kind.the-variants.{Standard, Advanced}
 use Rattle.frame.specs.declared.Way.the-variants.{Reply}
 use Rattle.frame.specs.declared.Sealed.the-variants.{Octets}
-use Rattle.frame.specs.Shape.{shapeOf, overhead}
+use Rattle.frame.specs.Shape.{shapeOf, replyRoom, overhead, dataAt}
 use Rattle.frame.specs.Sealed.{frameOf, fitsIn, sealedAs, replyIn}
 use Rattle.frame.proofs.Room.{fits-in}
 use Rattle.frame.proofs.Seal.{length-frame}
 
 -- the longest frame is no longer than the reply buffer
-pub longest-fits : (k : Kind) → shapeOf k .longest ≤ 842
+pub longest-fits : (k : Kind) → shapeOf k .longest ≤ replyRoom
 longest-fits Standard = omega arith
 longest-fits Advanced = omega arith
 
-module _ (k : Kind) (adr ctl status : ℕ) (sent out out′ : List ℕ) (room : 842 ≤ length out) (small : overhead Reply k + length sent ≤ shapeOf k .longest)
-    (there : out′ ≡ put (shapeOf k .lead + 3) sent out) where
+module _ (k : Kind) (adr ctl status : ℕ) (sent out out′ : List ℕ) (room : replyRoom ≤ length out) (small : overhead Reply k + length sent ≤ shapeOf k .longest)
+    (there : out′ ≡ put (dataAt Reply k) sent out) where
   size : length out′ ≡ length out
-  size = ap length there ∙ put-length (shapeOf k .lead + 3) sent out
+  size = ap length there ∙ put-length (dataAt Reply k) sent out
 
   fits : fitsIn Reply k (length sent) (length out′) ≡ true
   fits = fits-in Reply k (length sent) (length out′) small (omega (arith, size, longest-fits k))
@@ -36,10 +36,8 @@ module _ (k : Kind) (adr ctl status : ℕ) (sent out out′ : List ℕ) (room : 
   pub reply-octets : replyIn k adr ctl status (length sent) out′ ≡ put 0 (frameOf k adr ctl (status ∷ sent)) out
   unfolding replyIn
   reply-octets =
-      let at : ℕ = shapeOf k .lead + 3 in
-      let e : shapeOf k .lead + 2 + 1 ≡ at = omega arith in
-      let body : part (shapeOf k .lead + 2 + 1) (length sent) out′ ≡ sent =
-      ap (λ (i : ℕ). part i (length sent) out′) e ∙ ap (part at (length sent)) there ∙ part-put-same at sent out (omega (arith, longest-fits k)) in
+      let at : ℕ = dataAt Reply k in
+      let body : part at (length sent) out′ ≡ sent = ap (part at (length sent)) there ∙ part-put-same at sent out (omega (arith, longest-fits k)) in
       rw (fits, body)
       (ap (put 0 (frameOf k adr ctl (status ∷ sent))) there
       ∙ put-over at sent 0 (frameOf k adr ctl (status ∷ sent)) out (omega arith) (omega (arith, length-frame k adr ctl (status ∷ sent))))

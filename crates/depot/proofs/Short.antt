@@ -1,4 +1,4 @@
--- No answer is a reply of more than 842 octets. Assumes nothing.
+-- No answer is a reply longer than the reply room. Assumes nothing.
 use Prim.Native.Nat.{ℕ, _≤_}
 use mathlib.Core.Path.{_≡_, refl}
 use mathlib.Core.Bool.{Bool, true, false, cond}
@@ -6,8 +6,8 @@ use mathlib.Core.List.{List, _∷_}
 use mathlib.Core.Option.{Option, none, some}
 use native.Mathlib.Omega.{arith}
 use lib.ListN.{length}
+use Rattle.frame.specs.Shape.{replyRoom}
 use Rattle.octets.specs.Tests.{first}
-use Rattle.octets.specs.Numbers.{Octets}
 use Rattle.frame.specs.declared.Kind.{Kind}
 use Rattle.frame.specs.declared.Refusal.{Refusal}
 use Rattle.frame.specs.declared.Refusal.the-variants.{Unsound}
@@ -30,7 +30,7 @@ use Rattle.depot.proofs.Replying.{longest-fits}
 
 abbrev pub Short : Answer → Type 0
 Short (Refused r) = Unit {0}
-Short (Reply n) = n ≤ 842
+Short (Reply n) = n ≤ replyRoom
 Short (Sighted w) = Unit {0}
 Short Done = Unit {0}
 
@@ -38,7 +38,7 @@ Short Done = Unit {0}
 
 abbrev pub Brief : RuleAnswer → Type 0
 Brief (refused r) = Unit {0}
-Brief (reply t) = length t ≤ 842
+Brief (reply t) = length t ≤ replyRoom
 Brief (seen w) = Unit {0}
 Brief ok = Unit {0}
 
@@ -58,7 +58,7 @@ on-brief s e h = go (sound s) h
 
 -- the reply that carries a desk's answer
 pub answer-brief : (kind : Kind) (adr control : ℕ) (d : Desk) (body : List ℕ) → DeskLegal d
-    → let r = answered kind d control body in length (frameOf kind adr control (r .status ∷ r .sent)) ≤ 842
+    → let r = answered kind d control body in length (frameOf kind adr control (r .status ∷ r .sent)) ≤ replyRoom
 unfolding answered
 answer-brief kind adr control d body legal =
     let r = answered kind d control body in
@@ -69,9 +69,9 @@ pub served-brief : (f : List ℕ) (d : Desk) → DeskLegal d → Brief (served f
 unfolding served
 served-brief f d legal = let p = request f in answer-brief (p .kind) (p .address) (p .control) d (dataOf p f) legal
 
-frame-brief : (f s : List ℕ) (room : ℕ) → Octets s → sound s ≡ true → Brief (step (view s) (frame f room) .answer)
+frame-brief : (f s : List ℕ) (room : ℕ) → sound s ≡ true → Brief (step (view s) (frame f room) .answer)
 unfolding step placed
-frame-brief f s room o e =
+frame-brief f s room e =
     let n = request f .address in
     unless-brief (first (frameRefusals f room)) (view s) (placed (view s) n (served f (deskAt (view s) n))) (served-brief f (deskAt (view s) n) (desk-of-view s n e))
 
@@ -91,8 +91,8 @@ module _ (s out : List ℕ) (a : Answer) (s′ out′ : List ℕ) where
   called-short : (e : Event) → (sound s ≡ true → Brief (step (view s) e .answer)) → Called e s out a s′ out′ → Short a
   called-short e h c = ended-short (stepOn s e .answer) (stepOn s e .box) s out a s′ out′ (on-brief s e h) (c .ended)
 
-  pub frame-short : (f : List ℕ) (room : ℕ) → Octets s → Called (frame f room) s out a s′ out′ → Short a
-  frame-short f room o c = called-short (frame f room) (frame-brief f s room o) c
+  pub frame-short : (f : List ℕ) (room : ℕ) → Called (frame f room) s out a s′ out′ → Short a
+  frame-short f room c = called-short (frame f room) (frame-brief f s room) c
 
   pub sighting-short : (n uid mask : ℕ) → Called (sighting n uid mask) s out a s′ out′ → Short a
   sighting-short n uid mask c = called-short (sighting n uid mask) (λ _. sighting-brief n uid mask s) c

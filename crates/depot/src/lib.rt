@@ -1,11 +1,13 @@
 // The calls of the box: fresh, frame, sighting, tick. Any octets, any numbers, any store: each call ends with an answer,
 // and a refused call writes nothing.
+use frame::Advanced;
 use frame::Frame;
 use frame::Judged;
 use frame::Refusal;
 use frame::Sealed;
 use frame::Way;
 use rules::Seen;
+use rules::no_desk;
 ghost use mathlib.Core.Path.{_≡_};
 ghost use mathlib.Core.Bool.{true};
 ghost use mathlib.Core.List.{[]};
@@ -13,6 +15,7 @@ ghost use Prim.Native.Nat.{_≤_};
 ghost use lib.ListN.{length};
 ghost use Rattle.frame.specs.declared.Way.{Way};
 ghost use Rattle.frame.specs.declared.Judged.{Judged};
+ghost use Rattle.frame.specs.Shape.{replyRoom};
 ghost use Rattle.frame.specs.Judged.{judged};
 ghost use Rattle.rules.specs.Box.{Event};
 ghost use Rattle.store.specs.Sound.{sound};
@@ -40,11 +43,11 @@ pub fn fresh(store: &mut [u8]) -> Answer
 
 // A frame that was judged sound is answered by the desk that it names.
 fn served(store: &mut [u8], frame: &[u8], f: Frame, out: &mut [u8]) -> Answer
-    requires { ⌜ (sound (now store) ≡ true) × (judged Way.Request (now frame) ≡ Judged.Sound f) × (842 ≤ length (now out)) ⌝ }
+    requires { ⌜ (sound (now store) ≡ true) × (judged Way.Request (now frame) ≡ Judged.Sound f) × (replyRoom ≤ length (now out)) ⌝ }
     ensures { λ r. ⌜ Called (Event.frame (now (frame .entry)) (length (now (out .entry)))) (now (store .entry)) (now (out .entry)) r (now (store .exit)) (now (out .exit)) ⌝ }
 {
     let address = f.address;
-    if address > 7 {
+    if no_desk(address as u64) {
         return Answer::Refused(Refusal::NoDesk);
     }
     let start = f.start;
@@ -71,7 +74,7 @@ pub fn frame(store: &mut [u8], frame: &[u8], out: &mut [u8]) -> Answer
     if !store::sound::test(store) {
         return Answer::Refused(Refusal::Unsound);
     }
-    if out.len() < 842 {
+    if out.len() < Advanced::LONGEST {
         return Answer::Refused(Refusal::SmallBuffer);
     }
     match frame::judge(Way::Request, frame) {
@@ -87,7 +90,7 @@ pub fn sighting(store: &mut [u8], desk: u64, uid: u64, mask: u8) -> Answer
     if !store::sound::test(store) {
         return Answer::Refused(Refusal::Unsound);
     }
-    if desk > 7 {
+    if no_desk(desk) {
         return Answer::Refused(Refusal::NoDesk);
     }
     if mask == 0 {

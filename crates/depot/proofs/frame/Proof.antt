@@ -14,32 +14,11 @@ use Rattle.depot.proofs.frame.Tie as tie
 good : (c : tie.Else1) → sound (c .before .before .before .before .before .before .args .store .now) ≡ true
 good c = passed (c .before .test .ensures) (c .if1 .left)
 
-test-requires : tie.Need-test-requires
-test-requires c κs = search needs
-
-same-length : tie.Need-same-length
-same-length c = search needs
-
-returns : tie.Need-returns
-returns c = unsound _ _ _ (failed (c .before .test .ensures) (c .if1 .taken))
-
-same-length-2 : tie.Need-same-length-2
-same-length-2 c = search needs
-
 returns-2 : tie.Need-returns-2
 returns-2 c =
     let e = c .before in
     let a = e .before .before .before .before .before .before .args in
     frame-refused (a .frame .now) (length (a .out .now)) _ (a .store .now) (a .out .now) (good e) (small-buffer (a .frame .now) (length (a .out .now)) (c .if2 .taken))
-
-judge-requires : tie.Need-judge-requires
-judge-requires c κs = search needs
-
-enum-known-r : tie.Need-enum-known-r
-enum-known-r c = search needs
-
-enum-known-f : tie.Need-enum-known-f
-enum-known-f c = search needs
 
 served-requires : tie.Need-served-requires
 served-requires c κs =
@@ -47,9 +26,6 @@ served-requires c κs =
     let j = f .before .before in
     let n = j .before in
     (good (n .before), sym (j .judge .ensures) ∙ f .f .given .1, n .if2 .left)
-
-same-length-3 : tie.Need-same-length-3
-same-length-3 c = search needs
 
 returns-3 : tie.Need-returns-3
 returns-3 c =
@@ -60,30 +36,21 @@ returns-3 c =
     frame-refused (a .frame .now) (length (a .out .now)) _ (a .store .now) (a .out .now) (good (n .before))
     (judge-refused (a .frame .now) (length (a .out .now)) (n .if2 .left) (r .r .given .0 .0) (sym (j .judge .ensures) ∙ r .r .given .1))
 
-same-length-4 : tie.Need-same-length-4
-same-length-4 c = search needs
-
-same-length-5 : tie.Need-same-length-5
-same-length-5 c = search needs
-
-returns-4 : tie.Need-returns-4
-returns-4 c = search needs
-
 pub frame-spec : {M : Type 1} → statement M
 frame-spec =
     tie.close
     (tie.spec
-    test-requires
-    same-length
-    returns
-    same-length-2
+    (λ c κs. search needs)
+    (λ c. search needs)
+    (λ c. unsound _ _ _ (failed (c .before .test .ensures) (c .if1 .taken)))
+    (λ c. search needs)
     returns-2
-    judge-requires
-    enum-known-r
-    enum-known-f
+    (λ c κs. search needs)
+    (λ c. search needs)
+    (λ c. search needs)
     served-requires
-    same-length-3
+    (λ c. search needs)
     returns-3
-    same-length-4
-    same-length-5
-    returns-4)
+    (λ c. search needs)
+    (λ c. search needs)
+    (λ c. search needs))
