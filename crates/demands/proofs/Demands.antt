@@ -6,7 +6,9 @@ use mathlib.Core.List.{List}
 use mathlib.Core.Logic.{_⊎_, inl, inr}
 use lib.ListN.{length, take}
 use lib.Dec.{eqb}
-use Rattle.octets.specs.Numbers.{Octets as AllOctets}
+use Rattle.table.specs.Entries.{desks}
+use Rattle.rules.specs.Config.{blockSize}
+use Rattle.frame.specs.Shape.{replyRoom}
 use Rattle.octets.specs.Tests.{allOf}
 use Rattle.frame.specs.declared.Refusal.{Refusal}
 use Rattle.frame.specs.declared.Refusal.the-variants.{Unsound}
@@ -52,15 +54,15 @@ papers-answers ds s h = let l = lived ds s h in (l .still, l .says, l .gave)
 
 -- and what the host makes is read by the box as that request, what the box replies is read back as that reply: by the promises of maker,
 -- box and reader
-pub read-each-other : (q : Request) (buf : List ℕ) (n : ℕ) (buf′ : List ℕ) → length (q .bytes) ≡ 14 → Requested q buf (Octets n) buf′
-    → (s out : List ℕ) → sound s ≡ true → AllOctets s → 842 ≤ length out
+pub read-each-other : (q : Request) (buf : List ℕ) (n : ℕ) (buf′ : List ℕ) → length (q .bytes) ≡ blockSize → Requested q buf (Octets n) buf′
+    → (s out : List ℕ) → sound s ≡ true → replyRoom ≤ length out
     → (a : Answer) (s′ out′ : List ℕ) → Called (frame (take n buf′) (length out)) s out a s′ out′ → ReadBack q s a out′
-read-each-other q buf n buf′ size made s out still o room a s′ out′ called =
-    host-hears q (made-carriable q buf n buf′ made size) s still o out room a s′ out′
+read-each-other q buf n buf′ size made s out still room a s′ out′ called =
+    host-hears q (made-carriable q buf n buf′ made size) s still out room a s′ out′
     (subst (λ (f : List ℕ). Called (frame f (length out)) s out a s′ out′) (made-frame q buf n buf′ made) called)
 
 -- 3. No desk shows in another: two histories, over whatever buffers, whose events for a desk are equal; whatever the other seven do
-pub no-desk-shows : (n : ℕ) → n < 8 → (ds ds′ : List Deed) (s s′ : List ℕ) → History ds s → History ds′ s′
+pub no-desk-shows : (n : ℕ) → n < desks → (ds ds′ : List Deed) (s s′ : List ℕ) → History ds s → History ds′ s′
     → history n (eventsOf ds) ≡ history n (eventsOf ds′)
     → (heardBy n ds ≡ heardBy n ds′) × (deskAt (view s) n ≡ deskAt (view s′) n)
 no-desk-shows = isolated

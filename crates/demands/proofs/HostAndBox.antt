@@ -1,6 +1,6 @@
 -- Host and box read each other (demand 2's last sentence), and the reader refuses exactly what no sound store makes the box answer.
 -- Assumes nothing.
-use Prim.Native.Nat.{ℕ, _≤_}
+use Prim.Native.Nat.{ℕ, _≤_, _<_}
 use mathlib.Core.Path.{_≡_, refl, sym, ap, _∙_}
 use mathlib.Core.Bool.{true, not}
 use mathlib.Core.List.{List}
@@ -8,16 +8,18 @@ use mathlib.Core.Option.{none}
 use native.Mathlib.Omega.{arith}
 use lib.ListN.{length, take, set, length-set}
 use lib.Seq.{take-at, getD-set-same}
-use borrow.Author.Tests.{ltb-false, not-true, not-false}
+use borrow.Author.Tests.{ltb-false, not-true, not-false, leb-false}
+use Rattle.table.specs.Entries.{desks}
+use Rattle.rules.specs.Config.{blockSize}
+use Rattle.frame.specs.Shape.{replyRoom}
 use Rattle.octets.specs.Tests.{first}
-use Rattle.octets.specs.Numbers.{Octets}
 use Rattle.octets.proofs.Tests.{and-left, none-head, none-tail}
 use Rattle.octets.specs.Parts.{put}
 use Rattle.octets.proofs.Each.{all-set}
 use Rattle.octets.proofs.Puts.{put-front}
 use Rattle.rules.specs.declared.Written.the-variants as written
 use Rattle.rules.specs.Desk.{Desk, freshDesk}
-use Rattle.rules.specs.Box.{Box, freshBox, deskAt, noDesk, frame, reply, placed}
+use Rattle.rules.specs.Box.{Box, freshBox, deskAt, frame, reply, placed}
 use Rattle.rules.specs.Legal.{boxLegal}
 use Rattle.rules.proofs.Facts.{DeskLegal, desk-facts, box-test}
 use Rattle.rules.proofs.Legality.{fresh-facts}
@@ -39,7 +41,7 @@ use Rattle.reader.proofs.Given.{Given, possible-given}
 use Rattle.reader.proofs.ReadBack.{reply-read}
 use Rattle.demands.specs.Exchange.{Carriable, ruledBy, replyTo, taken, ReadBack, Gives}
 
-module _ (q : Request) (c : Carriable q) (s : List ℕ) (still : sound s ≡ true) (octets : Octets s) where
+module _ (q : Request) (c : Carriable q) (s : List ℕ) (still : sound s ≡ true) where
   legal : DeskLegal (deskAt (view s) (q .desk))
   legal = desk-of-view s (q .desk) still
 
@@ -47,10 +49,10 @@ module _ (q : Request) (c : Carriable q) (s : List ℕ) (still : sound s ≡ tru
   pub only-possible : possible q (ruledBy q s .status) (length (ruledBy q s .sent)) ≡ true
   only-possible = answer-possible q (deskAt (view s) (q .desk)) legal (c .bytes) (c .desk) (c .fields)
 
-  short : length (replyTo q s) ≤ 842
+  short : length (replyTo q s) ≤ replyRoom
   short = answer-brief (q .kind) (q .desk) (controlOf (q .ask)) (deskAt (view s) (q .desk)) (dataFor q) legal
 
-  module _ (out : List ℕ) (room : 842 ≤ length out) where
+  module _ (out : List ℕ) (room : replyRoom ≤ length out) where
     steps : stepOn s (frame (requestFrame q) (length out)) .answer ≡ reply (replyTo q s)
     unfolding stepOn placed
     steps = rw (still, box-steps q (c .bytes) (view s) (length out) (c .desk) room)
@@ -80,22 +82,22 @@ module _ (q : Request) (buf : List ℕ) (n : ℕ) (buf′ : List ℕ) (made : Re
       let room = ltb-false (length buf) (length (requestFrame q)) (none-head _ _ _ (none-tail _ _ _ (none-tail _ _ _ (was-written .0)))) in
       ap (take n) (was-written .2 ∙ put-front (requestFrame q) buf room) ∙ take-at (requestFrame q) _ n (sym (was-written .1))
 
-  pub made-carriable : length (q .bytes) ≡ 14 → Carriable q
-  unfolding makerRefusals noDesk inRange
+  pub made-carriable : length (q .bytes) ≡ blockSize → Carriable q
+  unfolding makerRefusals inRange
   made-carriable size =
       record {
         bytes = size;
-        desk = ltb-false 7 (q .desk) (none-head _ _ _ (was-written .0));
+        desk = leb-false desks (q .desk) (none-head _ _ _ (was-written .0));
         fields = and-left (fieldsHold (q .ask)) (not (denied q)) (not-false (inRange q) (none-head _ _ _ (none-tail _ _ _ (was-written .0))));
       }
 
-possible-desk : (q : Request) (status len : ℕ) → possible q status len ≡ true → q .desk ≤ 7
-unfolding possible noDesk
-possible-desk q status len e = ltb-false 7 (q .desk) (not-true _ (and-left _ _ (and-left _ _ e)))
+possible-desk : (q : Request) (status len : ℕ) → possible q status len ≡ true → q .desk < desks
+unfolding possible
+possible-desk q status len e = leb-false desks (q .desk) (not-true _ (and-left _ _ (and-left _ _ e)))
 
 -- ---- and for every possible answer there is a sound store that gives it
 
-module _ (n : ℕ) (low : n ≤ 7) (d : Desk) (legal : DeskLegal d) where
+module _ (n : ℕ) (low : n < desks) (d : Desk) (legal : DeskLegal d) where
   abbrev boxWith : Box
   boxWith = set freshBox n d
 
@@ -106,7 +108,7 @@ module _ (n : ℕ) (low : n ≤ 7) (d : Desk) (legal : DeskLegal d) where
   unfolding deskAt
   with-desk = getD-set-same freshBox n d freshDesk (omega (arith, fresh-facts .size))
 
-pub some-store : (q : Request) (status len : ℕ) → length (q .bytes) ≡ 14 → possible q status len ≡ true → Gives q status len
+pub some-store : (q : Request) (status len : ℕ) → length (q .bytes) ≡ blockSize → possible q status len ≡ true → Gives q status len
 some-store q status len size may =
     let g : Given q status len = possible-given q status len size may in
     let low = possible-desk q status len may in

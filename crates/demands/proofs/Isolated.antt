@@ -8,6 +8,8 @@ use native.Mathlib.Omega.{arith}
 use lib.ListN.{length, take}
 use lib.Seq.{take-at}
 use borrow.Author.Tests.{ltb-false}
+use Rattle.table.specs.Entries.{desks}
+use Rattle.frame.specs.Shape.{replyRoom}
 use Rattle.octets.specs.Tests.{first, allOf}
 use Rattle.octets.proofs.Tests.{none-head, and-left, and-right}
 use Rattle.octets.proofs.Puts.{put-front}
@@ -40,8 +42,8 @@ module _ (box : Box) (legal : BoxLegal box) where
   frame-fits f room t e =
       let n = request f .address in
       let u = unless-reply (first (frameRefusals f room)) box n (served f (deskAt box n)) t e in
-      let brief : length t ≤ 842 = subst Brief (u .1) (served-brief f (deskAt box n) (desk-in-box box n legal)) in
-      omega (arith, ltb-false room 842 (none-head _ _ _ (u .0)))
+      let brief : length t ≤ replyRoom = subst Brief (u .1) (served-brief f (deskAt box n) (desk-in-box box n legal)) in
+      omega (arith, ltb-false room replyRoom (none-head _ _ _ (u .0)))
 
   sighting-fits : (n uid mask : ℕ) (t : List ℕ) → step box (sighting n uid mask) .answer ≡ reply t → ⊥
   unfolding step sighted
@@ -101,7 +103,7 @@ pub heard-of-desk : (n : ℕ) (ds : List Deed) (s : List ℕ) → History ds s �
 heard-of-desk n ds s h = heard-all n ds freshBox fresh-facts (h .typed) (lived ds s h .gave)
 
 -- two histories whose events for a desk are equal: it hears the same, and the same is kept for it
-pub isolated : (n : ℕ) → n < 8 → (ds ds′ : List Deed) (s s′ : List ℕ) → History ds s → History ds′ s′ → history n (eventsOf ds) ≡ history n (eventsOf ds′)
+pub isolated : (n : ℕ) → n < desks → (ds ds′ : List Deed) (s s′ : List ℕ) → History ds s → History ds′ s′ → history n (eventsOf ds) ≡ history n (eventsOf ds′)
     → (heardBy n ds ≡ heardBy n ds′) × (deskAt (view s) n ≡ deskAt (view s′) n)
 isolated n low ds ds′ s s′ h h′ same =
     let one : Led freshBox ds s = lived ds s h in

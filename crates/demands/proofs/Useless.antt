@@ -5,6 +5,7 @@ use mathlib.Core.List.{List, [], _∷_, _++_, map}
 use native.Mathlib.Omega.{arith}
 use lib.ListN.{length, getD, take, replicate}
 use borrow.Author.Tests.{eq-eqb, ne-eqb}
+use Rattle.frame.specs.Shape.{replyRoom}
 use Rattle.octets.specs.Tests.{first}
 use Rattle.octets.specs.Numbers.{octets}
 use Rattle.octets.proofs.Numbers.{octets-length}
@@ -16,8 +17,8 @@ use Rattle.frame.specs.Sealed.{frameOf}
 use Rattle.rules.specs.declared.Seen.the-variants.{Ignored, Recorded}
 use Rattle.rules.specs.Box.{freshBox, Answer as RuleAnswer, reply, seen, ok}
 use Rattle.rules.specs.Desk.{Desk}
-use Rattle.rules.specs.Control.{row, commands, rowIn, known}
-use Rattle.rules.specs.Command.{ownTests, result, effect, tests, unless, obey, answered}
+use Rattle.rules.specs.Control.{commands, knownIn, known, sizedFor}
+use Rattle.rules.specs.Command.{rowTests, tableTests, result, rowEffect, tableEffect, tests, unless, obey, answered}
 use Rattle.rules.specs.Records.{goes, counted}
 use Rattle.rules.specs.Events.{concerns, answersOf}
 use Rattle.rules.proofs.Computed.{computed}
@@ -30,7 +31,7 @@ use Rattle.demands.proofs.Isolated.{told, heard-of-desk}
 
 -- a request to desk 0 in a standard frame, with an output that has room; and its reply
 abbrev ask : ℕ → List ℕ → Call
-ask control body = frame (frameOf Standard 0 control body) (replicate 842 0)
+ask control body = frame (frameOf Standard 0 control body) (replicate replyRoom 0)
 
 abbrev replyOf : ℕ → List ℕ → List ℕ
 replyOf control sent = frameOf Standard 0 control (0x00 ∷ sent)
@@ -118,11 +119,11 @@ pretends-after-the-first a b c x y z s n h e =
 -- made-up counts: TAB-LEN is the number of records held, and 0x22 sends the oldest of them, counted, whatever store the box works on
 module _ (kind : Kind) (d : Desk) where
   pub tab-len-is-held : answered kind d 0x31 [] .sent ≡ octets 2 share ++ octets 2 (d .table .start) ++ octets 2 (length (d .table .held))
-  unfolding answered known rowIn commands row obey tests first ownTests unless effect result
+  unfolding answered known knownIn commands obey tests first tableTests rowTests unless tableEffect rowEffect result sizedFor
   tab-len-is-held = refl
 
   pub records-sent-are-held : (k : ℕ) → k < 65536 → (k ≡ 0 → ⊥) → (length (d .table .held) ≡ 0 → ⊥)
       → answered kind d 0x22 (octets 2 k) .sent ≡ counted (take (goes kind k (d .table)) (d .table .held))
-  unfolding answered known rowIn commands row obey tests first ownTests unless effect result
+  unfolding answered known knownIn commands obey tests first tableTests rowTests unless tableEffect rowEffect result sizedFor
   records-sent-are-held k small some held =
       rw (eq-eqb _ _ (octets-length 2 k), two-back k small, ne-eqb _ _ some, ne-eqb _ _ held)

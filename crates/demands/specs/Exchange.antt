@@ -1,9 +1,11 @@
 -- An exchange: the host's request, handed to the box, and its reply, handed back to the host. Assumes nothing.
-use Prim.Native.Nat.{ℕ, _+_, _≤_}
+use Prim.Native.Nat.{ℕ, _+_, _<_}
 use mathlib.Core.Path.{_≡_}
 use mathlib.Core.Bool.{true}
 use mathlib.Core.List.{List, _∷_}
 use lib.ListN.{length, take}
+use Rattle.table.specs.Entries.{desks}
+use Rattle.rules.specs.Config.{blockSize}
 use Rattle.octets.specs.Parts.{part}
 use Rattle.octets.specs.Each.{All, Octet}
 use Rattle.frame.specs.Shape.{shapeOf}
@@ -22,8 +24,8 @@ use Rattle.reader.specs.Reader.{readAs}
 
 -- a request that a frame can carry
 pub record Carriable (q : Request) : Type 0 where
-  pub bytes : length (q .bytes) ≡ 14
-  pub desk : q .desk ≤ 7
+  pub bytes : length (q .bytes) ≡ blockSize
+  pub desk : q .desk < desks
   pub fields : fieldsHold (q .ask) ≡ true
 
 -- what the rules have the desk answer that a store says
