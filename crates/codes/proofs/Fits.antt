@@ -48,8 +48,8 @@ answer-fits (Answer.Reply n) h = omega arith
 answer-fits (Answer.Sighted w) h = omega (arith, seen-small w)
 answer-fits Answer.Done h = omega arith
 
-pub frame-fits : (f s : List ℕ) (room : ℕ) (out : List ℕ) (a : Answer) (s′ out′ : List ℕ) → Octets s → Called (frame f room) s out a s′ out′ → codeOf a < 2 ^ 64
-frame-fits f s room out a s′ out′ o c = answer-fits a (frame-short s out a s′ out′ f room o c)
+pub frame-fits : (f s : List ℕ) (room : ℕ) (out : List ℕ) (a : Answer) (s′ out′ : List ℕ) → Called (frame f room) s out a s′ out′ → codeOf a < 2 ^ 64
+frame-fits f s room out a s′ out′ c = answer-fits a (frame-short s out a s′ out′ f room c)
 
 pub sighting-fits : (n uid mask : ℕ) (s out : List ℕ) (a : Answer) (s′ out′ : List ℕ) → Called (sighting n uid mask) s out a s′ out′ → codeOf a < 2 ^ 64
 sighting-fits n uid mask s out a s′ out′ c = answer-fits a (sighting-short s out a s′ out′ n uid mask c)

@@ -11,7 +11,7 @@ use Rattle.frame.specs.declared.Refusal.the-variants.{NoDesk, OutOfRange, NotTh
 use Rattle.frame.specs.declared.Way.the-variants.{Reply}
 use Rattle.frame.specs.Judged.{faults}
 use Rattle.rules.specs.declared.Known.the-variants.{Unknown}
-use Rattle.rules.specs.Control.{row, commands, rowIn, known}
+use Rattle.rules.specs.Control.{commands, knownIn, known}
 use Rattle.rules.specs.Box.{noDesk}
 use Rattle.requests.specs.declared.Request.{Request}
 use Rattle.requests.specs.Request.{inRange}
@@ -32,7 +32,7 @@ no-ask kind desk control a b c bytes (inr e) = rw e (go (whole kind (octetOf con
 
 -- a number above 255 is no control byte
 pub no-control : (control : ℕ) → 256 ≤ control → known (octetOf control) ≡ Unknown
-unfolding octetOf known rowIn commands row
+unfolding octetOf known knownIn commands
 no-control control h = rw (le-ltb control 256 h)
 
 module _ (q : Request) (e : q .ask ≡ noAsk) where

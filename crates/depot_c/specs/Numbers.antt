@@ -7,7 +7,11 @@ use lib.Dec.{eqb, ltb}
 use Rattle.frame.specs.declared.Kind.{Kind}
 use Rattle.frame.specs.declared.Kind.the-variants.{Standard, Advanced}
 use Rattle.rules.specs.declared.Command.{Command}
-use Rattle.rules.specs.declared.Command.the-variants.{Baud, Reset, SystemReset, ReadBlock, WriteBlock, SaveBlocks, RestoreBlocks, SetTimer, SendTimer, Login, ReadRecords, SendTable, RemoveRecords, ClearRecords}
+use Rattle.rules.specs.declared.Command.the-variants.{OnRow, OnTable}
+use Rattle.rules.specs.declared.RowCommand.{RowCommand}
+use Rattle.rules.specs.declared.RowCommand.the-variants.{Baud, Reset, ReadBlock, WriteBlock, SaveBlocks, RestoreBlocks, SetTimer, SendTimer, Login}
+use Rattle.rules.specs.declared.TableCommand.{TableCommand}
+use Rattle.rules.specs.declared.TableCommand.the-variants.{SystemReset, ReadRecords, SendTable, RemoveRecords, ClearRecords}
 use Rattle.rules.specs.declared.Known.{Known}
 use Rattle.rules.specs.declared.Known.the-variants.{Listed, Unknown}
 use Rattle.rules.specs.Config.{blockSize}
@@ -25,28 +29,34 @@ unfoldable pub kindNamed : ℕ → Kind
 kindNamed kind = cond (eqb kind 0) Standard Advanced
 
 -- what a command asks with three numbers: CFG-ADR, password or k is the first; hour, minute, milliseconds
+abbrev pub rowAsk : RowCommand → ℕ → ℕ → ℕ → Ask
+rowAsk Baud a b c = Ask.Baud a
+rowAsk Reset a b c = Ask.Reset
+rowAsk ReadBlock a b c = Ask.ReadBlock a
+rowAsk WriteBlock a b c = Ask.WriteBlock a
+rowAsk SaveBlocks a b c = Ask.SaveBlocks a
+rowAsk RestoreBlocks a b c = Ask.RestoreBlocks a
+rowAsk SetTimer a b c = Ask.SetTimer a b c
+rowAsk SendTimer a b c = Ask.SendTimer
+rowAsk Login a b c = Ask.Login a
+
+abbrev pub tableAsk : TableCommand → ℕ → Ask
+tableAsk SystemReset a = Ask.SystemReset
+tableAsk ReadRecords a = Ask.ReadRecords a
+tableAsk SendTable a = Ask.SendTable
+tableAsk RemoveRecords a = Ask.RemoveRecords
+tableAsk ClearRecords a = Ask.ClearRecords
+
 abbrev pub askWith : Command → ℕ → ℕ → ℕ → Ask
-askWith Baud a b c = Ask.Baud a
-askWith Reset a b c = Ask.Reset
-askWith SystemReset a b c = Ask.SystemReset
-askWith ReadBlock a b c = Ask.ReadBlock a
-askWith WriteBlock a b c = Ask.WriteBlock a
-askWith SaveBlocks a b c = Ask.SaveBlocks a
-askWith RestoreBlocks a b c = Ask.RestoreBlocks a
-askWith SetTimer a b c = Ask.SetTimer a b c
-askWith SendTimer a b c = Ask.SendTimer
-askWith Login a b c = Ask.Login a
-askWith ReadRecords a b c = Ask.ReadRecords a
-askWith SendTable a b c = Ask.SendTable
-askWith RemoveRecords a b c = Ask.RemoveRecords
-askWith ClearRecords a b c = Ask.ClearRecords
+askWith (OnRow x) a b c = rowAsk x a b c
+askWith (OnTable x) a b c = tableAsk x a
 
 -- what is no request is read as one whose value its field can't hold: the maker refuses it with 6, the reader with 8
 abbrev pub noAsk : Ask
 noAsk = Ask.Baud 256
 
 abbrev pub askOf : Known → ℕ → ℕ → ℕ → Ask
-askOf (Listed row) a b c = askWith (row .command) a b c
+askOf (Listed t) a b c = askWith (t .command) a b c
 askOf Unknown a b c = noAsk
 
 -- a frame kind is named, and a write has the bytes of a block

@@ -5,10 +5,13 @@ use requests::Request;
 use rules::BLOCK;
 use rules::Command;
 use rules::Known;
+use rules::RowCommand;
+use rules::TableCommand;
+use rules::control;
 ghost use mathlib.Core.Path.{_≡_};
 ghost use mathlib.Core.Bool.{cond};
 ghost use Rattle.rules.specs.Control.{known};
-ghost use Rattle.depot_c.specs.Numbers.{octetOf, kindNamed, askWith, noAsk, askOf, whole, requestOf};
+ghost use Rattle.depot_c.specs.Numbers.{octetOf, kindNamed, rowAsk, tableAsk, askWith, noAsk, askOf, whole, requestOf};
 
 // A number that is to be one octet: 0, which is no mask and no command, for one that is not.
 pub fn octet_of(n: u64) -> u8
@@ -30,24 +33,40 @@ fn kind_of(kind: u64) -> Kind
 }
 
 // What a command asks with three numbers.
+fn row_ask(command: RowCommand, a: u64, b: u64, c: u64) -> Ask
+    ensures { λ r. ⌜ r ≡ rowAsk command a b c ⌝ }
+{
+    match command {
+        RowCommand::Baud => Ask::Baud(a),
+        RowCommand::Reset => Ask::Reset,
+        RowCommand::ReadBlock => Ask::ReadBlock(a),
+        RowCommand::WriteBlock => Ask::WriteBlock(a),
+        RowCommand::SaveBlocks => Ask::SaveBlocks(a),
+        RowCommand::RestoreBlocks => Ask::RestoreBlocks(a),
+        RowCommand::SetTimer => Ask::SetTimer(a, b, c),
+        RowCommand::SendTimer => Ask::SendTimer,
+        RowCommand::Login => Ask::Login(a),
+    }
+}
+
+fn table_ask(command: TableCommand, a: u64) -> Ask
+    ensures { λ r. ⌜ r ≡ tableAsk command a ⌝ }
+{
+    match command {
+        TableCommand::SystemReset => Ask::SystemReset,
+        TableCommand::ReadRecords => Ask::ReadRecords(a),
+        TableCommand::SendTable => Ask::SendTable,
+        TableCommand::RemoveRecords => Ask::RemoveRecords,
+        TableCommand::ClearRecords => Ask::ClearRecords,
+    }
+}
+
 fn ask_with(command: Command, a: u64, b: u64, c: u64) -> Ask
     ensures { λ r. ⌜ r ≡ askWith command a b c ⌝ }
 {
     match command {
-        Command::Baud => Ask::Baud(a),
-        Command::Reset => Ask::Reset,
-        Command::SystemReset => Ask::SystemReset,
-        Command::ReadBlock => Ask::ReadBlock(a),
-        Command::WriteBlock => Ask::WriteBlock(a),
-        Command::SaveBlocks => Ask::SaveBlocks(a),
-        Command::RestoreBlocks => Ask::RestoreBlocks(a),
-        Command::SetTimer => Ask::SetTimer(a, b, c),
-        Command::SendTimer => Ask::SendTimer,
-        Command::Login => Ask::Login(a),
-        Command::ReadRecords => Ask::ReadRecords(a),
-        Command::SendTable => Ask::SendTable,
-        Command::RemoveRecords => Ask::RemoveRecords,
-        Command::ClearRecords => Ask::ClearRecords,
+        Command::OnRow(x) => row_ask(x, a, b, c),
+        Command::OnTable(x) => table_ask(x, a),
     }
 }
 
@@ -55,9 +74,9 @@ fn ask_with(command: Command, a: u64, b: u64, c: u64) -> Ask
 fn ask_of(control: u8, a: u64, b: u64, c: u64) -> Ask
     ensures { λ r. ⌜ r ≡ askOf (known control) a b c ⌝ }
 {
-    match desk::control::decide(control) {
-        Known::Listed(row) => {
-            let command = row.command;
+    match control::decide(control) {
+        Known::Listed(t) => {
+            let command = t.command;
             ask_with(command, a, b, c)
         }
         Known::Unknown => Ask::Baud(256),

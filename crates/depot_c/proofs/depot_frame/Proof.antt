@@ -10,7 +10,7 @@ answer-code-requires c κs =
     let f = c .before .before .before .before in
     let k = f .before .before .before .before .before in
     let a = k .before .args in
-    frame-fits (a .frame .now) (a .store .now) (length (a .out .now)) (a .out .now) _ _ _ (λ i. k .slice-known .given i .fits) (f .frame .ensures)
+    frame-fits (a .frame .now) (a .store .now) (length (a .out .now)) (a .out .now) _ _ _ (f .frame .ensures)
 
 pub depot-frame-spec : {M : Type 1} → statement M
 depot-frame-spec =
