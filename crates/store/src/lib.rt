@@ -31,12 +31,8 @@ pub const LOCKED: usize = TAB_START + 1;
 
 pub const LOCKS: usize = LOCKED + 1;
 
-// A lock's octets, how many locks a row has room for, and a row's octets.
-pub const LOCK: usize = 10;
-
-pub const MOST_LOCKS: u8 = 64;
-
-pub const ROW: usize = LOCKS + LOCK * MOST_LOCKS as usize;
+// A row's octets: the locks are its last field.
+pub const ROW: usize = LOCKS + locks::WIDTH * locks::MOST;
 
 // How many entries the table has, and its octets.
 pub const ENTRIES: usize = 512;

@@ -8,7 +8,6 @@ use crate::LOCKED;
 use crate::LOCKS;
 use crate::LOGIN;
 use crate::MARK;
-use crate::MOST_LOCKS;
 use crate::RAM;
 use crate::ROW;
 use crate::SIZE;
@@ -52,6 +51,9 @@ const SEP_CHAR: usize = LINE + 1;
 const END_CHAR: usize = LINE + 3;
 
 const LEN_USR: usize = LINE + 13;
+
+// As many locks as an octet of the row can say.
+const MOST_LOCKS: u8 = locks::MOST as u8;
 
 // ---- the header
 
