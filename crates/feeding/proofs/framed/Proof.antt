@@ -23,7 +23,7 @@ show-requires c κs =
     let f = c .before .before .before .before .before .before in
     let k = f .before .before .before .before .before .before .before .before .before in
     let z = k .before .before in
-    room-for _ _ (z .args .out .now) (frame-short (z .args .store .now) (z .args .reply .now) _ _ _ _ _ (λ i. k .slice-known .given i .fits) (f .frame4 .ensures)) (z .pre)
+    room-for _ _ (z .args .out .now) (frame-short (z .args .store .now) (z .args .reply .now) _ _ _ _ _ (f .frame4 .ensures)) (z .pre)
 
 returns : tie.Need-returns
 returns c =
