@@ -1,9 +1,8 @@
 -- Hex digits in either case, and the octets that they make two by two; numbers in decimal. Assumes nothing.
-use Prim.Native.Nat.{ℕ, _+_, _-_, _*_}
+use Prim.Native.Nat.{ℕ, zero, suc, _+_, _-_, _*_, _/_, _%_}
 use mathlib.Core.Bool.{Bool, cond, _&&_, _||_}
-use mathlib.Core.List.{List, [], _∷_}
+use mathlib.Core.List.{List, [], _∷_, _++_}
 use lib.Dec.{leb, ltb}
-use Rattle.io.specs.Digits.{digits}
 
 unfoldable pub between : ℕ → ℕ → ℕ → Bool
 between low high c = leb low c && leb c high
@@ -30,10 +29,15 @@ octetsOf [] = []
 octetsOf (h ∷ []) = []
 octetsOf (h ∷ l ∷ s) = (valueOf h * 16 + valueOf l) ∷ octetsOf s
 
+-- the last k decimal digits of a number, the most significant first
+unfoldable pub lastDigits : ℕ → ℕ → List ℕ
+lastDigits zero n = []
+lastDigits (suc k) n = lastDigits k (n / 10) ++ ((0x30 + n % 10) ∷ [])
+
 -- how many decimal digits a number below 100000 has
 unfoldable pub placesOf : ℕ → ℕ
 placesOf n = cond (ltb n 10) 1 (cond (ltb n 100) 2 (cond (ltb n 1000) 3 (cond (ltb n 10000) 4 5)))
 
--- a number in decimal, the most significant digit first, without leading zeros
+-- a number in decimal, without leading zeros
 unfoldable pub decimalOf : ℕ → List ℕ
-decimalOf n = digits 10 (placesOf n) n
+decimalOf n = lastDigits (placesOf n) n

@@ -8,7 +8,7 @@ ghost use Prim.Native.Nat.{_+_, _≤_};
 ghost use lib.ListN.{length};
 ghost use Rattle.frame.specs.Refusal.{numberOf};
 ghost use Rattle.octets.specs.Parts.{put};
-ghost use Rattle.text.specs.Digits.{decimalOf};
+ghost use Rattle.text.specs.Digits.{placesOf, decimalOf};
 ghost use Rattle.text.specs.Listing.{wordRoom, Printed, printed, numberLine, refusedLine, hexLine, seenLine, notReadLine};
 
 // Writes a text.
@@ -31,14 +31,35 @@ fn say_hex(s: &[u8], out: &mut [u8]) -> usize
     end + 1
 }
 
-// Writes a number in decimal from a place on, and says how many digits it has.
+// How many decimal digits a number has.
+fn places(n: u16) -> usize
+    ensures { λ r. ⌜ r ≡ placesOf n ⌝ }
+{
+    if n < 10 {
+        return 1;
+    }
+    if n < 100 {
+        return 2;
+    }
+    if n < 1000 {
+        return 3;
+    }
+    if n < 10000 { 4 } else { 5 }
+}
+
+// Writes a number in decimal from a place on, beginning with its last digit, and says how many digits it has.
 fn put_decimal(n: u16, out: &mut [u8], at: usize) -> usize
     requires { ⌜ at + 5 ≤ length (now out) ⌝ }
     ensures { λ r. ⌜ (r ≤ 5) × (r ≡ length (decimalOf n)) × (now (out .exit) ≡ put at (decimalOf n) (now (out .entry))) ⌝ }
 {
-    let mut digits = [0u8; 20];
-    let k = io::decimal(n as u64, &mut digits);
-    octets::copy_to(out, at, &digits[..k]);
+    let k = places(n);
+    let mut left = n;
+    let mut i = k;
+    while 0 < i {
+        i -= 1;
+        out[at + i] = b'0' + (left % 10) as u8;
+        left /= 10;
+    }
     k
 }
 

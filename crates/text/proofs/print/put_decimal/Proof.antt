@@ -1,29 +1,54 @@
--- `text::print::put_decimal` meets its contract: the digits that the kit makes are the fewest that hold the number. Assumes nothing.
-use mathlib.Core.Path.{_∙_}
+-- `text::print::put_decimal` meets its contract. With the i digits that are left put before them, the digits written so far are the number. Assumes nothing.
+use Prim.Native.Nat.{_≤_}
+use mathlib.Core.Path.{_≡_, refl, sym, _∙_}
 use native.Mathlib.Omega.{arith}
 use borrow.Author.Needs.{needs}
-use lib.ListN.{length-take}
-use Rattle.text.proofs.Decimals.{places-most, places-are, digits-are, decimal-length}
+use lib.ListN.{length, length-set}
+use Rattle.octets.specs.Parts.{put}
+use Rattle.text.specs.Digits.{lastDigits, decimalOf}
+use Rattle.text.proofs.Decimals.{places-most, decimal-length, last-none, last-more}
 use Rattle.text.proofs.print.put_decimal.Statement.{statement}
 use Rattle.text.proofs.print.put_decimal.Tie as tie
 
-copy-to-requires : tie.Need-copy-to-requires
-copy-to-requires c κs =
-    let d = c .before .before in
-    let n = d .before .before .before .args .n in
-    simp length-take (omega (arith, places-are n (d .decimal .result) (d .decimal .ensures .1 .0) (omega arith), places-most n))
+abbrev Inv-loop : tie.InvT-loop
+Inv-loop n out₀ at k left₀ i₀ out left i = (i ≤ 5) × (length out ≡ length out₀) × (put at (lastDigits i left) out ≡ put at (decimalOf n) out₀)
 
-returns : tie.Need-returns
+abbrev μ-loop : tie.MeasureT-loop
+μ-loop n out₀ at k left₀ i₀ out left i = i
+
+loop-holds : tie.Need-loop-holds Inv-loop μ-loop
+unfolding decimalOf
+loop-holds c = (omega (arith, c .places .ensures, places-most (c .before .before .args .n)), refl, rw (c .places .ensures))
+
+loop-again : tie.Need-loop-again Inv-loop μ-loop
+loop-again c =
+    let l = c .before .loop in
+    (omega arith, simp length-set (l .inv .1), sym (last-more _ (l .i) (l .left) (l .out) (c .loop-test .taken)) ∙ l .inv .2)
+
+returns : tie.Need-returns Inv-loop μ-loop
 returns c =
-    let d = c .before .before .before .before .before in
-    let n = d .before .before .before .args .n in
-    let k = places-are n (d .decimal .result) (d .decimal .ensures .1 .0) (omega arith) in (
-      omega (arith, k, places-most n),
-      omega (arith, k, decimal-length n),
-      c .before .before .copy-to .ensures ∙ rw (digits-are n _ (d .decimal .ensures .1 .0) _ (omega arith) (d .decimal .ensures .1 .1)),
+    let l = c .before .loop in
+    let p = c .before .before in
+    let a = p .before .before .args in (
+      omega (arith, p .places .ensures, places-most (a .n)),
+      p .places .ensures ∙ sym (decimal-length (a .n)),
+      sym (last-none (a .at) (l .i) (l .left) (l .out) (omega arith)) ∙ l .inv .2,
     )
 
 pub put-decimal-spec : {M : Type 1} → statement M
 put-decimal-spec =
     tie.close
-    (tie.spec (λ c κs. search needs) (λ c. search needs) (λ c. search needs) copy-to-requires (λ c. search needs) returns)
+    (tie.spec
+    Inv-loop
+    μ-loop
+    (λ c κs. search needs)
+    loop-holds
+    (λ c. search needs)
+    (λ c. search needs)
+    (λ c. search needs)
+    (λ c. search needs)
+    (λ c. search needs)
+    (λ c. search needs)
+    loop-again
+    (λ c. search needs)
+    returns)
