@@ -7,7 +7,7 @@ use Rattle.frame.specs.declared.Refusal.the-variants.{Unsound, SmallBuff
 abbrev pub numberOf : Refusal → ℕ
 -- store of wrong size or not sound
 numberOf Unsound = 1
--- reply buffer shorter than 842
+-- reply buffer shorter than the longest reply
 numberOf SmallBuffer = 2
 -- frame shorter or longer than its kind allows, or length field differs from the length received
 numberOf WrongLength = 3

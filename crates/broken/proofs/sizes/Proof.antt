@@ -9,7 +9,8 @@ slice-aggregate-probe-4 : tie.Need-slice-aggregate-probe-4
 slice-aggregate-probe-4 c = simp length-take (omega arith)
 
 pub sizes-spec : {M : Type 1} → statement M
-sizes-spec {M} =
-    let first = tie.spec {M = M} (λ c. search needs) (λ c κs. search needs) (λ c. search needs) (λ c. search needs) (λ c κs. search needs) in
-    let second = first (λ c. search needs) (λ c. search needs) (λ c. search needs) slice-aggregate-probe-4 (λ c κs. search needs) in
-    tie.close (second (λ c. search needs) (λ c. search needs))
+sizes-spec =
+    tie.close
+    (tie.spec (λ c. search needs) (λ c κs. search needs) (λ c. search needs) (λ c. search needs) (λ c κs. search needs)
+    (λ c. search needs) (λ c. search needs) (λ c. search needs) slice-aggregate-probe-4 (λ c κs. search needs) (λ c. search needs)
+    (λ c. search needs))

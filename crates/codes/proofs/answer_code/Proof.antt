@@ -13,7 +13,7 @@ returns-4 : tie.Need-returns-4
 returns-4 c = sym (ap codeOf (c .before .a3 .given .1))
 
 pub answer-code-spec : {M : Type 1} → statement M
-answer-code-spec {M} =
-    let first = tie.spec {M = M} (λ c. search needs) (λ c. search needs) (λ c κs. search needs) (λ c. search needs) (λ c. search needs) in
-    let second = first (λ c κs. search needs) (λ c. search needs) add-result (λ c. search needs) (λ c. search needs) (λ c. search needs) in
-    tie.close (second returns-4)
+answer-code-spec =
+    tie.close
+    (tie.spec (λ c. search needs) (λ c. search needs) (λ c κs. search needs) (λ c. search needs) (λ c. search needs)
+    (λ c κs. search needs) (λ c. search needs) add-result (λ c. search needs) (λ c. search needs) (λ c. search needs) returns-4)

@@ -19,6 +19,7 @@ returns-2 : tie.Need-returns-2
 returns-2 c = sym (ap readCode (c .before .before .a2 .given .1))
 
 pub read-code-spec : {M : Type 1} → statement M
-read-code-spec {M} =
-    let first = tie.spec {M = M} (λ c. search needs) (λ c κs. search needs) (λ c. search needs) (λ c. search needs) (λ c. search needs) in
-    tie.close (first (λ c. search needs) (λ c. search needs) mul-result-2 add-result-2 add-result-3 (λ c. search needs) returns-2)
+read-code-spec =
+    tie.close
+    (tie.spec (λ c. search needs) (λ c κs. search needs) (λ c. search needs) (λ c. search needs) (λ c. search needs)
+    (λ c. search needs) (λ c. search needs) mul-result-2 add-result-2 add-result-3 (λ c. search needs) returns-2)

@@ -15,4 +15,5 @@ returns-2 c = sym (ap writtenCode (c .before .w2 .given .1))
 pub written-code-spec : {M : Type 1} → statement M
 written-code-spec =
     tie.close
-    (tie.spec (λ c. search needs) (λ c κs. search needs) (λ c. search needs) (λ c. search needs) add-result (λ c. search needs) returns-2)
+    (tie.spec (λ c. search needs) (λ c κs. search needs) (λ c. search needs) (λ c. search needs) add-result (λ c. search needs)
+    returns-2)

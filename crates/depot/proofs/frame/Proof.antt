@@ -39,18 +39,6 @@ returns-3 c =
 pub frame-spec : {M : Type 1} → statement M
 frame-spec =
     tie.close
-    (tie.spec
-    (λ c κs. search needs)
-    (λ c. search needs)
-    (λ c. unsound _ _ _ (failed (c .before .test .ensures) (c .if1 .taken)))
-    (λ c. search needs)
-    returns-2
-    (λ c κs. search needs)
-    (λ c. search needs)
-    (λ c. search needs)
-    served-requires
-    (λ c. search needs)
-    returns-3
-    (λ c. search needs)
-    (λ c. search needs)
-    (λ c. search needs))
+    (tie.spec (λ c κs. search needs) (λ c. search needs) (λ c. unsound _ _ _ (failed (c .before .test .ensures) (c .if1 .taken)))
+    (λ c. search needs) returns-2 (λ c κs. search needs) (λ c. search needs) (λ c. search needs) served-requires
+    (λ c. search needs) returns-3 (λ c. search needs) (λ c. search needs) (λ c. search needs))

@@ -46,22 +46,10 @@ returns-3 c =
 pub served-spec : {M : Type 1} → statement M
 served-spec =
     tie.close
-    (tie.spec
-    (λ c. search needs)
-    (λ c κs. search needs)
-    returns
+    (tie.spec (λ c. search needs) (λ c κs. search needs) returns
     (λ c. let z = c .before .before .before .before .before .before in omega (arith, sound-fits Request (z .args .frame .now) (z .args .f) (z .pre .1)))
-    (λ c. search needs)
-    (λ c. search needs)
-    (λ c. search needs)
+    (λ c. search needs) (λ c. search needs) (λ c. search needs)
     (λ c. let z = c .before .before .before .before .before .before .before in omega (arith, sound-fits Request (z .args .frame .now) (z .args .f) (z .pre .1)))
     (λ c κs. let e = c .before .before .before .before in let z = e .before .before .before .before .before in (z .pre .0, low e, z .pre .2))
-    (λ c κs. search needs)
-    (λ c. search needs)
-    (λ c. search needs)
-    (λ c. search needs)
-    (λ c. search needs)
-    returns-2
-    (λ c. search needs)
-    (λ c. search needs)
-    returns-3)
+    (λ c κs. search needs) (λ c. search needs) (λ c. search needs) (λ c. search needs) (λ c. search needs) returns-2
+    (λ c. search needs) (λ c. search needs) returns-3)

@@ -43,15 +43,6 @@ returns-4 c =
 pub sighting-spec : {M : Type 1} → statement M
 sighting-spec =
     tie.close
-    (tie.spec
-    (λ c κs. search needs)
-    (λ c. search needs)
-    (λ c. unsound _ _ _ (failed (c .before .test .ensures) (c .if1 .taken)))
-    (λ c κs. search needs)
-    (λ c. search needs)
-    returns-2
-    (λ c. search needs)
-    returns-3
-    (λ c κs. let l = c .before .before in (good (l .before .before), low l))
-    (λ c. search needs)
-    returns-4)
+    (tie.spec (λ c κs. search needs) (λ c. search needs) (λ c. unsound _ _ _ (failed (c .before .test .ensures) (c .if1 .taken)))
+    (λ c κs. search needs) (λ c. search needs) returns-2 (λ c. search needs) returns-3
+    (λ c κs. let l = c .before .before in (good (l .before .before), low l)) (λ c. search needs) returns-4)

@@ -27,5 +27,4 @@ returns-2 c =
     ticked-answered _ _ _ (passed (e .before .test .ensures) (e .if1 .left)) (t .tick .ensures)
 
 pub tick-spec : {M : Type 1} → statement M
-tick-spec =
-    tie.close (tie.spec test-requires same-length returns tick-requires same-length-2 returns-2)
+tick-spec = tie.close (tie.spec test-requires same-length returns tick-requires same-length-2 returns-2)

@@ -14,4 +14,5 @@ answer-code-requires c κs =
 
 pub depot-frame-spec : {M : Type 1} → statement M
 depot-frame-spec =
-    tie.close (tie.spec (λ c κs. search needs) answer-code-requires (λ c. search needs) (λ c. search needs) (λ c. search needs))
+    tie.close
+    (tie.spec (λ c κs. search needs) answer-code-requires (λ c. search needs) (λ c. search needs) (λ c. search needs))

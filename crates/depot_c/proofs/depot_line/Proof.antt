@@ -27,6 +27,7 @@ returns-3 c =
     (record { answer = l .line .result; code = c .written-code3 .ensures; wrote = rw (f .block-of .ensures, t .record-of .ensures) at (l .line .ensures) }))
 
 pub depot-line-spec : {M : Type 1} → statement M
-depot-line-spec {M} =
-    let first = tie.spec {M = M} (λ c κs. search needs) returns (λ c κs. search needs) returns-2 (λ c κs. search needs) (λ c κs. search needs) in
-    tie.close (first (λ c κs. search needs) written-code-requires-3 (λ c. search needs) returns-3)
+depot-line-spec =
+    tie.close
+    (tie.spec (λ c κs. search needs) returns (λ c κs. search needs) returns-2 (λ c κs. search needs) (λ c κs. search needs)
+    (λ c κs. search needs) written-code-requires-3 (λ c. search needs) returns-3)

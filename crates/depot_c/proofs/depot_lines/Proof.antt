@@ -22,6 +22,7 @@ returns-2 c =
     (record { answer = l .lines .result; code = c .written-code2 .ensures; wrote = rw (f .block-of .ensures) at (l .lines .ensures) })
 
 pub depot-lines-spec : {M : Type 1} → statement M
-depot-lines-spec {M} =
-    let first = tie.spec {M = M} (λ c κs. search needs) returns (λ c κs. search needs) (λ c κs. search needs) written-code-requires-2 in
-    tie.close (first (λ c. search needs) returns-2)
+depot-lines-spec =
+    tie.close
+    (tie.spec (λ c κs. search needs) returns (λ c κs. search needs) (λ c κs. search needs) written-code-requires-2
+    (λ c. search needs) returns-2)

@@ -11,4 +11,6 @@ returns-2 : tie.Need-returns-2
 returns-2 c = with-room _ _ _ _ _ _ _ _ _ (search needs) (c .before .before .before .before .before .before .read-off .ensures)
 
 pub answer-spec : {M : Type 1} → statement M
-answer-spec = tie.close (tie.spec returns (λ c κs. search needs) (λ c. search needs) (λ c. search needs) (λ c. search needs) returns-2)
+answer-spec =
+    tie.close
+    (tie.spec returns (λ c κs. search needs) (λ c. search needs) (λ c. search needs) (λ c. search needs) returns-2)

@@ -11,4 +11,6 @@ returns-2 : tie.Need-returns-2
 returns-2 c = feeds-over _ _ _ _ (c .before .spoilt .ensures) (c .if1 .left)
 
 pub feed-spec : {M : Type 1} → statement M
-feed-spec = tie.close (tie.spec (λ c κs. search needs) (λ c. search needs) (λ c. search needs) (λ c. search needs) returns returns-2)
+feed-spec =
+    tie.close
+    (tie.spec (λ c κs. search needs) (λ c. search needs) (λ c. search needs) (λ c. search needs) returns returns-2)

@@ -38,6 +38,7 @@ returns c =
     }
 
 pub framed-spec : {M : Type 1} → statement M
-framed-spec {M} =
-    let first = tie.spec {M = M} (λ c. search needs) (λ c κs. search needs) (λ c. search needs) slice-aggregate-frame (λ c κs. search needs) in
-    tie.close (first show-requires (λ c. search needs) (λ c. search needs) (λ c. search needs) returns)
+framed-spec =
+    tie.close
+    (tie.spec (λ c. search needs) (λ c κs. search needs) (λ c. search needs) slice-aggregate-frame (λ c κs. search needs)
+    show-requires (λ c. search needs) (λ c. search needs) (λ c. search needs) returns)

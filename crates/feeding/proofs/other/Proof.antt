@@ -39,7 +39,8 @@ returns-3 c =
     (record { answers = (refl, refl, c .before .before .not-read .ensures) })
 
 pub other-spec : {M : Type 1} → statement M
-other-spec {M} =
-    let first = tie.spec {M = M} (λ c κs. search needs) (λ c κs. search needs) show-requires (λ c. search needs) (λ c. search needs) in
-    let second = first (λ c. search needs) returns (λ c κs. search needs) sighted-requires (λ c. search needs) (λ c. search needs) in
-    tie.close (second (λ c. search needs) returns-2 (λ c κs. search needs) (λ c. search needs) returns-3)
+other-spec =
+    tie.close
+    (tie.spec (λ c κs. search needs) (λ c κs. search needs) show-requires (λ c. search needs) (λ c. search needs)
+    (λ c. search needs) returns (λ c κs. search needs) sighted-requires (λ c. search needs) (λ c. search needs)
+    (λ c. search needs) returns-2 (λ c κs. search needs) (λ c. search needs) returns-3)

@@ -47,8 +47,9 @@ returns-4 c =
     (c .before .before .before .before .before .before .framed .ensures)
 
 pub read-off-spec : {M : Type 1} → statement M
-read-off-spec {M} =
-    let first = tie.spec {M = M} (λ c κs. search needs) (λ c κs. search needs) (λ c. search needs) returns (λ c. simp length-take (omega arith)) in
-    let second = first (λ c κs. search needs) (λ c. search needs) (λ c. search needs) (λ c. search needs) returns-2 (λ c κs. search needs) in
-    let third = second (λ c. search needs) returns-3 (λ c. simp length-take (omega arith)) (λ c κs. search needs) (λ c. search needs) in
-    tie.close (third (λ c. search needs) (λ c. search needs) returns-4)
+read-off-spec =
+    tie.close
+    (tie.spec (λ c κs. search needs) (λ c κs. search needs) (λ c. search needs) returns (λ c. simp length-take (omega arith))
+    (λ c κs. search needs) (λ c. search needs) (λ c. search needs) (λ c. search needs) returns-2 (λ c κs. search needs)
+    (λ c. search needs) returns-3 (λ c. simp length-take (omega arith)) (λ c κs. search needs) (λ c. search needs)
+    (λ c. search needs) (λ c. search needs) returns-4)

@@ -47,7 +47,8 @@ returns c =
     (t .before .number64 .ensures) (t .sighting .ensures) (c .before .before .show .ensures)
 
 pub sighted-spec : {M : Type 1} → statement M
-sighted-spec {M} =
-    let first = tie.spec {M = M} sub-decode part-decode-start (λ c. search needs) (λ c. search needs) (λ c κs. search needs) in
-    let second = first shared-slice-read-desk sub-desk cast-sighting (λ c. search needs) (λ c κs. search needs) (λ c. search needs) in
-    tie.close (second (λ c κs. search needs) show-requires (λ c. search needs) (λ c. search needs) (λ c. search needs) returns)
+sighted-spec =
+    tie.close
+    (tie.spec sub-decode part-decode-start (λ c. search needs) (λ c. search needs) (λ c κs. search needs) shared-slice-read-desk
+    sub-desk cast-sighting (λ c. search needs) (λ c κs. search needs) (λ c. search needs) (λ c κs. search needs) show-requires
+    (λ c. search needs) (λ c. search needs) (λ c. search needs) returns)

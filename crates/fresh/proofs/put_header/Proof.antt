@@ -13,4 +13,6 @@ returns c =
     third .put163 .ensures ∙ rw (second .put162 .ensures, one .put16 .ensures) (header-made _ _ _ _ refl refl refl)
 
 pub put-header-spec : {M : Type 1} → statement M
-put-header-spec = tie.close (tie.spec (λ c κs. search needs) (λ c κs. search needs) (λ c κs. search needs) (λ c. search needs) returns)
+put-header-spec =
+    tie.close
+    (tie.spec (λ c κs. search needs) (λ c κs. search needs) (λ c κs. search needs) (λ c. search needs) returns)

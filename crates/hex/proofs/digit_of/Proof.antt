@@ -12,10 +12,4 @@ returns-2 : tie.Need-returns-2
 returns-2 c = omega (arith, digit-high _ (c .if1 .left))
 
 pub digit-of-spec : {M : Type 1} → statement M
-digit-of-spec =
-    tie.close
-    (tie.spec
-    (λ c. search needs)
-    (λ c. search needs)
-    returns
-    returns-2)
+digit-of-spec = tie.close (tie.spec (λ c. search needs) (λ c. search needs) returns returns-2)

@@ -21,12 +21,7 @@ returns c =
 pub act-spec : {M : Type 1} → statement M
 act-spec =
     tie.close
-    (tie.spec
-    (λ c κs. (c .before .before .pre .1, omega (arith, sound-size _ (c .before .before .pre .0))))
-    (λ c. search needs)
-    (λ c. search needs)
-    (λ c. search needs)
+    (tie.spec (λ c κs. (c .before .before .pre .1, omega (arith, sound-size _ (c .before .before .pre .0)))) (λ c. search needs)
+    (λ c. search needs) (λ c. search needs)
     (λ c. let z = c .before .before .before in omega (arith, lent-inside _ (z .pre .0) (z .args .d) (z .pre .1) _ (c .row-at .ensures .0)))
-    act-requires
-    (λ c. search needs)
-    returns)
+    act-requires (λ c. search needs) returns)

@@ -18,12 +18,8 @@ returns c =
 pub held-spec : {M : Type 1} → statement M
 held-spec =
     tie.close
-    (tie.spec
-    (λ c κs. (lit< tt, omega (arith, sound-size _ (c .before .pre .0))))
-    (λ c κs. omega (arith, sound-size _ (c .before .before .pre .0)))
-    (λ c. search needs)
-    (λ c. search needs)
-    (λ c. search needs)
+    (tie.spec (λ c κs. (lit< tt, omega (arith, sound-size _ (c .before .pre .0))))
+    (λ c κs. omega (arith, sound-size _ (c .before .before .pre .0))) (λ c. search needs) (λ c. search needs) (λ c. search needs)
     (λ c. omega (arith, table-inside _ (c .before .before .before .pre .0) _ _ (c .before .start .ensures .0) (c .used .ensures .0)))
     (λ c. search needs)
     (λ c κs. let u = c .before in table-fits _ (u .before .before .before .pre .0) _ _ (u .before .start .ensures .0) (u .used .ensures .0))

@@ -30,15 +30,8 @@ returns c =
 pub lock-of-spec : {M : Type 1} → statement M
 lock-of-spec =
     tie.close
-    (tie.spec
-    (λ c κs. (c .before .pre .1, omega (arith, sound-size _ (c .before .pre .0))))
-    (λ c. search needs)
+    (tie.spec (λ c κs. (c .before .pre .1, omega (arith, sound-size _ (c .before .pre .0)))) (λ c. search needs)
     (λ c. omega (arith, inside c))
     (λ c. let z = c .before .before .before in omega (arith, few-there _ (z .pre .0) (z .args .d) (z .pre .1) _ (c .before .row-at .ensures .0)))
-    (λ c. search needs)
-    (λ c. search needs)
-    (λ c. search needs)
-    (λ c. search needs)
-    (λ c. omega (arith, inside c))
-    lookup-in-requires
-    returns)
+    (λ c. search needs) (λ c. search needs) (λ c. search needs) (λ c. search needs) (λ c. omega (arith, inside c))
+    lookup-in-requires returns)

@@ -16,14 +16,7 @@ inside c = let z = c .before .before .before in lent-inside _ (z .pre .0) (z .ar
 pub marks-of-spec : {M : Type 1} → statement M
 marks-of-spec =
     tie.close
-    (tie.spec
-    (λ c κs. (c .before .pre .1, omega (arith, sound-size _ (c .before .pre .0))))
-    (λ c. search needs)
-    (λ c. omega (arith, inside c))
-    (λ c. search needs)
-    (λ c. omega (arith, inside (c .before)))
-    (λ c. search needs)
-    (λ c. omega (arith, inside (c .before .before)))
-    (λ c. search needs)
-    (λ c. omega (arith, inside (c .before .before .before)))
+    (tie.spec (λ c κs. (c .before .pre .1, omega (arith, sound-size _ (c .before .pre .0)))) (λ c. search needs)
+    (λ c. omega (arith, inside c)) (λ c. search needs) (λ c. omega (arith, inside (c .before))) (λ c. search needs)
+    (λ c. omega (arith, inside (c .before .before))) (λ c. search needs) (λ c. omega (arith, inside (c .before .before .before)))
     (λ c. let r = c .before .before .before .before in let z = r .before .before in marks-read (z .args .s .now) (z .pre .0) (z .args .d) (z .pre .1) (r .row-at .result) (r .row-at .ensures .0)))

@@ -34,15 +34,5 @@ returns-3 c =
 pub line-spec : {M : Type 1} → statement M
 line-spec =
     tie.close
-    (tie.spec
-    (λ c. search needs)
-    (λ c κs. search needs)
-    returns
-    (λ c. search needs)
-    width-requires
-    returns-2
-    (λ c. search needs)
-    (λ c. search needs)
-    put-line-requires
-    (λ c. search needs)
-    returns-3)
+    (tie.spec (λ c. search needs) (λ c κs. search needs) returns (λ c. search needs) width-requires returns-2 (λ c. search needs)
+    (λ c. search needs) put-line-requires (λ c. search needs) returns-3)

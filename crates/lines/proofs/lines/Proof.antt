@@ -50,16 +50,5 @@ returns-3 c =
 pub lines-spec : {M : Type 1} → statement M
 lines-spec =
     tie.close
-    (tie.spec
-    (λ c. search needs)
-    (λ c κs. search needs)
-    returns
-    (λ c κs. search needs)
-    (λ c. search needs)
-    width-requires
-    (λ c. search needs)
-    returns-2
-    (λ c. search needs)
-    put-lines-requires
-    (λ c. search needs)
-    returns-3)
+    (tie.spec (λ c. search needs) (λ c κs. search needs) returns (λ c κs. search needs) (λ c. search needs) width-requires
+    (λ c. search needs) returns-2 (λ c. search needs) put-lines-requires (λ c. search needs) returns-3)

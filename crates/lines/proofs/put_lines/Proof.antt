@@ -5,6 +5,7 @@ use native.Mathlib.Nat.{mul-zero, mul-suc}
 use native.Mathlib.Numerals.{add-one}
 use native.Mathlib.Omega.{arith}
 use lib.ListN.{length, length-take, length-drop}
+use Rattle.table.specs.Entries.{recordWidth}
 use Rattle.octets.specs.Parts.{put}
 use Rattle.octets.proofs.Puts.{put-length}
 use Rattle.lines.specs.Pieces.{widthOf}
@@ -19,7 +20,7 @@ abbrev μ-loop : tie.MeasureT-loop
 μ-loop block sent m out₀ at₀ k₀ out at k = m - k
 
 -- the record that a turn reads lies in what was sent
-inside : (c : tie.In-loop Inv-loop μ-loop) → 2 + 13 * c .before .loop .k + 13 ≤ length (c .before .before .before .before .before .args .sent .now)
+inside : (c : tie.In-loop Inv-loop μ-loop) → 2 + recordWidth * c .before .loop .k + recordWidth ≤ length (c .before .before .before .before .before .args .sent .now)
 inside c = omega (arith, records-fit (c .before .before .before .before .before .args .sent .now) (c .before .loop .k + 1) (omega arith))
 
 -- and there is room for its line
@@ -42,7 +43,7 @@ loop-again c =
     let t = p .before .before .before in
     let l = t .before .loop in
     let z = t .before .before .before .before .before in
-    let e = line-turn (z .args .block .now) (z .args .sent .now) (l .k) (l .at) (length (l .out) - l .at) (2 + 13 * l .k + 13 - (2 + 13 * l .k)) (p .put-line .last .1 .1 .0) (l .out) (z .args .out .now) (omega arith) (omega arith) (l .inv .1) (omega (arith, fits t)) (omega (arith, fits t)) (l .inv .3) (p .put-line .ensures .1) in
+    let e = line-turn (z .args .block .now) (z .args .sent .now) (l .k) (l .at) (length (l .out) - l .at) (2 + recordWidth * l .k + recordWidth - (2 + recordWidth * l .k)) (p .put-line .last .1 .1 .0) (l .out) (z .args .out .now) (omega arith) (omega arith) (l .inv .1) (omega (arith, fits t)) (omega (arith, fits t)) (l .inv .3) (p .put-line .ensures .1) in
     (omega arith, rw (add-one (l .k), mul-suc) (omega arith), ap length e ∙ put-length _ _ _, e)
 
 returns : tie.Need-returns Inv-loop μ-loop
@@ -55,23 +56,8 @@ returns c =
 pub put-lines-spec : {M : Type 1} → statement M
 put-lines-spec =
     tie.close
-    (tie.spec
-    Inv-loop
-    μ-loop
-    loop-holds
-    (λ c. omega (arith, inside c))
-    (λ c. omega (arith, inside c))
-    (λ c. omega (arith, inside c))
-    (λ c. omega arith)
-    (λ c. omega arith)
-    (λ c. omega (arith, inside c))
-    (λ c. omega (arith, fits (c .before)))
-    (λ c. omega (arith, fits (c .before)))
-    (λ c. omega arith)
-    put-line-requires
-    (λ c. omega (arith, fits (c .before .before .before .before .before)))
-    (λ c. omega arith)
-    (λ c. omega arith)
-    loop-again
-    (λ c. omega arith)
-    returns)
+    (tie.spec Inv-loop μ-loop loop-holds (λ c. omega (arith, inside c)) (λ c. omega (arith, inside c))
+    (λ c. omega (arith, inside c)) (λ c. omega arith) (λ c. omega arith) (λ c. omega (arith, inside c))
+    (λ c. omega (arith, fits (c .before))) (λ c. omega (arith, fits (c .before))) (λ c. omega arith) put-line-requires
+    (λ c. omega (arith, fits (c .before .before .before .before .before))) (λ c. omega arith) (λ c. omega arith) loop-again
+    (λ c. omega arith) returns)

@@ -6,4 +6,6 @@ use Rattle.listing.proofs.flush.Statement.{statement}
 use Rattle.listing.proofs.flush.Tie as tie
 
 pub flush-spec : {M : Type 1} → statement M
-flush-spec = tie.close (tie.spec (λ c. simp length-take (omega arith)) (λ c κs. search needs) (λ c. search needs) (λ c. search needs))
+flush-spec =
+    tie.close
+    (tie.spec (λ c. simp length-take (omega arith)) (λ c κs. search needs) (λ c. search needs) (λ c. search needs))

@@ -14,7 +14,8 @@ abbrev μ-loop : tie.MeasureT-loop
 μ-loop s held₀ store₀ reply₀ out₀ now₀ i₀ held store reply out now i = length s - i
 
 pub take-all-spec : {M : Type 1} → statement M
-take-all-spec {M} =
-    let first = tie.spec {M = M} Inv-loop μ-loop (λ c. search needs) (λ c. search needs) (λ c κs. search needs) (λ c. search needs) in
-    let second = first (λ c. search needs) (λ c. search needs) (λ c. search needs) (λ c. search needs) (λ c. search needs) (λ c. search needs) in
-    tie.close (second (λ c. search needs))
+take-all-spec =
+    tie.close
+    (tie.spec Inv-loop μ-loop (λ c. search needs) (λ c. search needs) (λ c κs. search needs) (λ c. search needs)
+    (λ c. search needs) (λ c. search needs) (λ c. search needs) (λ c. search needs) (λ c. search needs) (λ c. search needs)
+    (λ c. search needs))

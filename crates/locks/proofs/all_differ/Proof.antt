@@ -94,27 +94,7 @@ returns-2 c =
 pub all-differ-spec : {M : Type 1} → statement M
 all-differ-spec =
     tie.close
-    (tie.spec
-    Inv-loop2
-    μ-loop2
-    Inv-loop
-    μ-loop
-    loop-holds
-    (λ c. search needs)
-    (λ c. search needs)
-    (λ c. search needs)
-    (λ c. search needs)
-    search-from-requires
-    loop2-holds
-    (λ c. search needs)
-    (λ c. search needs)
-    returns
-    (λ c. search needs)
-    (λ c. search needs)
-    loop2-again
-    (λ c κs. search needs)
-    array-write-buckets
-    (λ c. search needs)
-    (λ c. search needs)
-    loop-again
+    (tie.spec Inv-loop2 μ-loop2 Inv-loop μ-loop loop-holds (λ c. search needs) (λ c. search needs) (λ c. search needs)
+    (λ c. search needs) search-from-requires loop2-holds (λ c. search needs) (λ c. search needs) returns (λ c. search needs)
+    (λ c. search needs) loop2-again (λ c κs. search needs) array-write-buckets (λ c. search needs) (λ c. search needs) loop-again
     returns-2)

@@ -51,15 +51,5 @@ returns-3 c =
 pub each-legal-spec : {M : Type 1} → statement M
 each-legal-spec =
     tie.close
-    (tie.spec
-    Inv-loop
-    μ-loop
-    loop-holds
-    (λ c. search needs)
-    (λ c. search needs)
-    returns
-    returns-2
-    (λ c. search needs)
-    (λ c. search needs)
-    loop-again
-    returns-3)
+    (tie.spec Inv-loop μ-loop loop-holds (λ c. search needs) (λ c. search needs) returns returns-2 (λ c. search needs)
+    (λ c. search needs) loop-again returns-3)

@@ -36,6 +36,4 @@ returns-3 c =
     ∙ sym (legal-distinct _ _ (few (e .before)) (passed (told e) (c .before .if2 .left)))
 
 pub legal-spec : {M : Type 1} → statement M
-legal-spec =
-    tie.close
-    (tie.spec returns (λ c κs. search needs) (λ c κs. search needs) returns-2 (λ c κs. search needs) returns-3)
+legal-spec = tie.close (tie.spec returns (λ c κs. search needs) (λ c κs. search needs) returns-2 (λ c κs. search needs) returns-3)

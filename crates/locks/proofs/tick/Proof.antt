@@ -39,6 +39,4 @@ returns-2 c =
     (count s, c .before .before .save .ensures ∙ ap (λ (ls : List Lock). put 0 (locksOctets ls) (a .p .now)) left)
 
 pub tick-spec : {M : Type 1} → statement M
-tick-spec =
-    tie.close
-    (tie.spec returns (λ c κs. search needs) (λ c κs. search needs) save-requires (λ c. search needs) returns-2)
+tick-spec = tie.close (tie.spec returns (λ c κs. search needs) (λ c κs. search needs) save-requires (λ c. search needs) returns-2)

@@ -47,14 +47,7 @@ put-frame-requires c κs =
 pub make-spec : {M : Type 1} → statement M
 make-spec =
     tie.close
-    (tie.spec
-    (λ c κs. search needs)
-    (λ c. refused-desk _ _ (leb-true _ _ (sym (c .before .no-desk .ensures) ∙ c .if1 .taken)))
+    (tie.spec (λ c κs. search needs) (λ c. refused-desk _ _ (leb-true _ _ (sym (c .before .no-desk .ensures) ∙ c .if1 .taken)))
     (λ c κs. search needs)
     (λ c. refused-range _ _ (low (c .before .before)) (failed (c .before .in-range .ensures) (c .if2 .taken)))
-    (λ c κs. search needs)
-    (λ c κs. search needs)
-    returns-3
-    put-frame-requires
-    (λ c. search needs)
-    (λ c. search needs))
+    (λ c κs. search needs) (λ c κs. search needs) returns-3 put-frame-requires (λ c. search needs) (λ c. search needs))

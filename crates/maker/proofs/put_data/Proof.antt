@@ -83,10 +83,10 @@ returns-14 c = data-none _ _ _ _ (c .enum-told6 .given .1) refl
 pub put-data-spec : {M : Type 1} → statement M
 put-data-spec =
     tie.close
-    (tie.spec (λ c. search needs) put-octet-requires (λ c. search needs) (λ c. search needs) (λ c. search needs) put-octet-requires-2
-    (λ c. search needs) put-block-requires (λ c. search needs) put-octet-requires-3 (λ c. search needs) put-octet-requires-4
-    (λ c. search needs) put-timer-requires (λ c. search needs) (λ c. search needs) put-password-requires (λ c. search needs) cast-put16
-    put16-requires (λ c. search needs) (λ c. search needs) (λ c. search needs) (λ c. search needs) returns returns-2 returns-3
-    (λ c. search needs) returns-4 (λ c. search needs) returns-5 (λ c. search needs) returns-6 (λ c. search needs) returns-7
-    (λ c. search needs) returns-8 returns-9 (λ c. search needs) returns-10 (λ c. search needs) returns-11 returns-12 returns-13
-    returns-14)
+    (tie.spec (λ c. search needs) put-octet-requires (λ c. search needs) (λ c. search needs) (λ c. search needs)
+    put-octet-requires-2 (λ c. search needs) put-block-requires (λ c. search needs) put-octet-requires-3 (λ c. search needs)
+    put-octet-requires-4 (λ c. search needs) put-timer-requires (λ c. search needs) (λ c. search needs) put-password-requires
+    (λ c. search needs) cast-put16 put16-requires (λ c. search needs) (λ c. search needs) (λ c. search needs) (λ c. search needs)
+    returns returns-2 returns-3 (λ c. search needs) returns-4 (λ c. search needs) returns-5 (λ c. search needs) returns-6
+    (λ c. search needs) returns-7 (λ c. search needs) returns-8 returns-9 (λ c. search needs) returns-10 (λ c. search needs)
+    returns-11 returns-12 returns-13 returns-14)

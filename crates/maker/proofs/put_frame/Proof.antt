@@ -44,5 +44,6 @@ returns-2 c =
 pub put-frame-spec : {M : Type 1} → statement M
 put-frame-spec =
     tie.close
-    (tie.spec (λ c κs. search needs) (λ c. omega (arith, roomy c)) (λ c. omega (arith, roomy c)) (λ c. search needs) put-data-requires (λ c. search needs)
-    (λ c κs. search needs) (λ c. search needs) (λ c. search needs) (λ c. search needs) returns (λ c. search needs) returns-2)
+    (tie.spec (λ c κs. search needs) (λ c. omega (arith, roomy c)) (λ c. omega (arith, roomy c)) (λ c. search needs)
+    put-data-requires (λ c. search needs) (λ c κs. search needs) (λ c. search needs) (λ c. search needs) (λ c. search needs)
+    returns (λ c. search needs) returns-2)

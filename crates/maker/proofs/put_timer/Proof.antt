@@ -20,5 +20,5 @@ returns c = c .before .before .put16 .ensures
 pub put-timer-spec : {M : Type 1} → statement M
 put-timer-spec =
     tie.close
-    (tie.spec (λ c. search needs) (λ c. search needs) (λ c. search needs) slice-write-out-2 (λ c. search needs) (λ c κs. search needs)
-    same-length returns)
+    (tie.spec (λ c. search needs) (λ c. search needs) (λ c. search needs) slice-write-out-2 (λ c. search needs)
+    (λ c κs. search needs) same-length returns)

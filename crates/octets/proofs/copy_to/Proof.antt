@@ -54,15 +54,4 @@ returns c =
 pub copy-to-spec : {M : Type 1} → statement M
 copy-to-spec =
     tie.close
-    (tie.spec
-    Inv-loop
-    μ-loop
-    loop-holds
-    shared-slice-read-s
-    add-s
-    slice-write-s
-    add-i
-    loop-less
-    loop-again
-    same-length
-    returns)
+    (tie.spec Inv-loop μ-loop loop-holds shared-slice-read-s add-s slice-write-s add-i loop-less loop-again same-length returns)

@@ -36,12 +36,5 @@ returns c = sym (u16At-is (c .before .before .args .at) (c .before .before .args
 pub get16-spec : {M : Type 1} → statement M
 get16-spec =
     tie.close
-    (tie.spec
-    shared-slice-read-result
-    cast-result
-    mul-result
-    add-result
-    shared-slice-read-result-2
-    cast-result-2
-    add-result-2
+    (tie.spec shared-slice-read-result cast-result mul-result add-result shared-slice-read-result-2 cast-result-2 add-result-2
     returns)

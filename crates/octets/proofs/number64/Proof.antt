@@ -62,16 +62,5 @@ returns c =
 pub number64-spec : {M : Type 1} → statement M
 number64-spec =
     tie.close
-    (tie.spec
-    Inv-loop
-    μ-loop
-    loop-holds
-    mul-sum
-    add-sum
-    shared-slice-read-sum
-    cast-sum
-    add-sum-2
-    add-i
-    loop-less
-    loop-again
+    (tie.spec Inv-loop μ-loop loop-holds mul-sum add-sum shared-slice-read-sum cast-sum add-sum-2 add-i loop-less loop-again
     returns)

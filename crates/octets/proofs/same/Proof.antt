@@ -61,15 +61,5 @@ returns-2 c =
 pub same-spec : {M : Type 1} → statement M
 same-spec =
     tie.close
-    (tie.spec
-    Inv-loop
-    μ-loop
-    loop-holds
-    add-if1
-    shared-slice-read-if1
-    shared-slice-read-if1-2
-    returns
-    add-i
-    loop-less
-    loop-again
+    (tie.spec Inv-loop μ-loop loop-holds add-if1 shared-slice-read-if1 shared-slice-read-if1-2 returns add-i loop-less loop-again
     returns-2)

@@ -66,5 +66,5 @@ returns-5 c =
 pub answers-to-spec : {M : Type 1} → statement M
 answers-to-spec =
     tie.close
-    (tie.spec (λ c κs. search needs) returns (λ c. search needs) returns-2 (λ c κs. search needs) returns-3 (λ c κs. search needs) returns-4
-    add-end (λ c. search needs) (λ c. search needs) part-count-right-end (λ c κs. search needs) returns-5)
+    (tie.spec (λ c κs. search needs) returns (λ c. search needs) returns-2 (λ c κs. search needs) returns-3 (λ c κs. search needs)
+    returns-4 add-end (λ c. search needs) (λ c. search needs) part-count-right-end (λ c κs. search needs) returns-5)

@@ -19,4 +19,5 @@ returns-4 c = count-said _ _ (c .before .before .before .if1 .left) (c .before .
 pub count-right-spec : {M : Type 1} → statement M
 count-right-spec =
     tie.close
-    (tie.spec returns returns-2 returns-3 (λ c κs. search needs) (λ c. search needs) (λ c. search needs) (λ c. search needs) returns-4)
+    (tie.spec returns returns-2 returns-3 (λ c κs. search needs) (λ c. search needs) (λ c. search needs) (λ c. search needs)
+    returns-4)

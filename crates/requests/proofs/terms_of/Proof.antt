@@ -7,4 +7,6 @@ use Rattle.requests.proofs.terms_of.Tie as tie
 
 pub terms-of-spec : {M : Type 1} → statement M
 terms-of-spec =
-    tie.close (tie.spec (λ c κs. search needs) (λ c κs. search needs) (λ c. c .terms-of .ensures ∙ ap termsOf (c .before .command-of .ensures)))
+    tie.close
+    (tie.spec (λ c κs. search needs) (λ c κs. search needs)
+    (λ c. c .terms-of .ensures ∙ ap termsOf (c .before .command-of .ensures)))

@@ -54,18 +54,8 @@ tick c =
 pub act-spec : {M : Type 1} → statement M
 act-spec =
     tie.close
-    (tie.spec
-    (λ c. search needs) (λ c κs. search needs)
-    (λ c. search needs) (λ c κs. search needs)
-    (λ c. search needs) (λ c κs. search needs)
-    (λ c. search needs) (λ c κs. search needs)
-    (λ c. search needs) (λ c κs. search needs)
-    (λ c. search needs) (λ c κs. search needs)
-    (λ c. search needs) (λ c κs. search needs)
-    (λ c. search needs) mark
-    (λ c. search needs) due
-    (λ c. search needs) close
-    (λ c. search needs) clear
-    (λ c. search needs) restart
-    (λ c. search needs) lock
-    (λ c. search needs) tick)
+    (tie.spec (λ c. search needs) (λ c κs. search needs) (λ c. search needs) (λ c κs. search needs) (λ c. search needs)
+    (λ c κs. search needs) (λ c. search needs) (λ c κs. search needs) (λ c. search needs) (λ c κs. search needs)
+    (λ c. search needs) (λ c κs. search needs) (λ c. search needs) (λ c κs. search needs) (λ c. search needs) mark
+    (λ c. search needs) due (λ c. search needs) close (λ c. search needs) clear (λ c. search needs) restart (λ c. search needs)
+    lock (λ c. search needs) tick)

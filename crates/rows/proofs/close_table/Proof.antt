@@ -10,11 +10,4 @@ unfolding closedRow dueRow put
 returns c = search needs
 
 pub close-table-spec : {M : Type 1} → statement M
-close-table-spec =
-    tie.close
-    (tie.spec
-    (λ c. search needs)
-    (λ c. search needs)
-    (λ c. search needs)
-    (λ c. search needs)
-    returns)
+close-table-spec = tie.close (tie.spec (λ c. search needs) (λ c. search needs) (λ c. search needs) (λ c. search needs) returns)

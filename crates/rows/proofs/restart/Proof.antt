@@ -19,12 +19,5 @@ returns c = cc
 pub restart-spec : {M : Type 1} → statement M
 restart-spec =
     tie.close
-    (tie.spec
-    move-within-requires
-    (λ c. search needs)
-    (λ c. search needs)
-    move-within-requires-2
-    (λ c κs. search needs)
-    (λ c κs. search needs)
-    (λ c. search needs)
-    returns)
+    (tie.spec move-within-requires (λ c. search needs) (λ c. search needs) move-within-requires-2 (λ c κs. search needs)
+    (λ c κs. search needs) (λ c. search needs) returns)

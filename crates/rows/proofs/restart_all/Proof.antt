@@ -10,4 +10,5 @@ returns c = cc
 
 pub restart-all-spec : {M : Type 1} → statement M
 restart-all-spec =
-    tie.close (tie.spec (λ c κs. search needs) (λ c κs. search needs) (λ c κs. search needs) (λ c. search needs) returns)
+    tie.close
+    (tie.spec (λ c κs. search needs) (λ c κs. search needs) (λ c κs. search needs) (λ c. search needs) returns)

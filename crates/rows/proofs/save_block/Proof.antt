@@ -16,11 +16,5 @@ returns c = search needs
 pub save-block-spec : {M : Type 1} → statement M
 save-block-spec =
     tie.close
-    (tie.spec
-    (λ c. search needs)
-    (λ c. search needs)
-    (λ c. search needs)
-    (λ c. search needs)
-    move-within-requires
-    (λ c. search needs)
-    returns)
+    (tie.spec (λ c. search needs) (λ c. search needs) (λ c. search needs) (λ c. search needs) move-within-requires
+    (λ c. search needs) returns)

@@ -3,6 +3,7 @@ use Prim.Native.Nat.{_-_, _/_, _≤_}
 use mathlib.Core.Path.{_≡_, refl}
 use lib.Dec.{lit≤}
 use borrow.Author.Needs.{needs}
+use Rattle.table.specs.Entries.{recordWidth, share}
 use Rattle.frame.specs.declared.Kind.{Kind}
 use Rattle.frame.specs.declared.Kind.the-variants.{Standard, Advanced}
 use Rattle.frame.specs.declared.Way.the-variants.{Request}
@@ -15,8 +16,8 @@ use Rattle.rules.proofs.most_sent.Tie as tie
 record Room (kind : Kind) : Type 0 where
   over : overhead Request kind ≤ shapeOf kind .longest
   more : 3 ≤ shapeOf kind .longest - overhead Request kind
-  same : (shapeOf kind .longest - overhead Request kind - 3) / 13 ≡ mostSent kind
-  few : (shapeOf kind .longest - overhead Request kind - 3) / 13 ≤ 64
+  same : (shapeOf kind .longest - overhead Request kind - 3) / recordWidth ≡ mostSent kind
+  few : (shapeOf kind .longest - overhead Request kind - 3) / recordWidth ≤ share
 
 room : (kind : Kind) → Room kind
 unfolding mostSent
@@ -35,6 +36,4 @@ returns c =
     rw (c .before .longest .ensures, c .overhead .ensures) (r .same, r .few)
 
 pub most-sent-spec : {M : Type 1} → statement M
-most-sent-spec =
-    tie.close
-    (tie.spec (λ c κs. search needs) (λ c κs. search needs) sub-result sub-result-2 returns)
+most-sent-spec = tie.close (tie.spec (λ c κs. search needs) (λ c κs. search needs) sub-result sub-result-2 returns)

@@ -46,12 +46,5 @@ returns-4 c =
 pub shape-legal-spec : {M : Type 1} → statement M
 shape-legal-spec =
     tie.close
-    (tie.spec
-    use-legal-requires
-    returns
-    char-legal-requires
-    returns-2
-    char-legal-requires-2
-    returns-3
-    len-legal-requires
+    (tie.spec use-legal-requires returns char-legal-requires returns-2 char-legal-requires-2 returns-3 len-legal-requires
     returns-4)

@@ -9,7 +9,8 @@ slice-aggregate-deed : tie.Need-slice-aggregate-deed
 slice-aggregate-deed c = simp length-take (omega arith)
 
 pub act-spec : {M : Type 1} → statement M
-act-spec {M} =
-    let first = tie.spec {M = M} (λ c κs. search needs) (λ c. search needs) (λ c. search needs) (λ c. search needs) (λ c. search needs) in
-    let second = first (λ c κs. search needs) (λ c. search needs) (λ c κs. search needs) (λ c. search needs) slice-aggregate-deed in
-    tie.close (second (λ c κs. search needs) (λ c. search needs) (λ c. search needs) (λ c. search needs))
+act-spec =
+    tie.close
+    (tie.spec (λ c κs. search needs) (λ c. search needs) (λ c. search needs) (λ c. search needs) (λ c. search needs)
+    (λ c κs. search needs) (λ c. search needs) (λ c κs. search needs) (λ c. search needs) slice-aggregate-deed
+    (λ c κs. search needs) (λ c. search needs) (λ c. search needs) (λ c. search needs))

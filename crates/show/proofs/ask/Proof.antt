@@ -9,7 +9,8 @@ slice-aggregate-frame : tie.Need-slice-aggregate-frame
 slice-aggregate-frame c = simp length-take (omega arith)
 
 pub ask-spec : {M : Type 1} → statement M
-ask-spec {M} =
-    let first = tie.spec {M = M} (λ c. search needs) (λ c. search needs) (λ c. search needs) (λ c. search needs) (λ c. search needs) in
-    let second = first (λ c. search needs) (λ c. search needs) (λ c κs. search needs) (λ c. search needs) (λ c. search needs) in
-    tie.close (second slice-aggregate-frame (λ c κs. search needs) (λ c. search needs) (λ c. search needs) (λ c. search needs))
+ask-spec =
+    tie.close
+    (tie.spec (λ c. search needs) (λ c. search needs) (λ c. search needs) (λ c. search needs) (λ c. search needs)
+    (λ c. search needs) (λ c. search needs) (λ c κs. search needs) (λ c. search needs) (λ c. search needs) slice-aggregate-frame
+    (λ c κs. search needs) (λ c. search needs) (λ c. search needs) (λ c. search needs))

@@ -9,6 +9,7 @@ slice-aggregate-word : tie.Need-slice-aggregate-word
 slice-aggregate-word c = simp length-take (omega arith)
 
 pub name-spec : {M : Type 1} → statement M
-name-spec {M} =
-    let first = tie.spec {M = M} (λ c κs. search needs) slice-aggregate-word (λ c κs. search needs) (λ c. search needs) (λ c κs. search needs) in
-    tie.close (first (λ c. search needs))
+name-spec =
+    tie.close
+    (tie.spec (λ c κs. search needs) slice-aggregate-word (λ c κs. search needs) (λ c. search needs) (λ c κs. search needs)
+    (λ c. search needs))

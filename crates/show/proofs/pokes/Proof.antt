@@ -13,7 +13,8 @@ abbrev μ-loop : tie.MeasureT-loop
 μ-loop d store₀ i₀ store i = length d - i
 
 pub pokes-spec : {M : Type 1} → statement M
-pokes-spec {M} =
-    let first = tie.spec {M = M} Inv-loop μ-loop (λ c. search needs) (λ c. search needs) (λ c κs. search needs) (λ c. search needs) in
-    let second = first (λ c. search needs) (λ c. search needs) (λ c κs. search needs) (λ c. search needs) (λ c. search needs) (λ c. search needs) in
-    tie.close (second (λ c. search needs) (λ c. search needs))
+pokes-spec =
+    tie.close
+    (tie.spec Inv-loop μ-loop (λ c. search needs) (λ c. search needs) (λ c κs. search needs) (λ c. search needs)
+    (λ c. search needs) (λ c. search needs) (λ c κs. search needs) (λ c. search needs) (λ c. search needs) (λ c. search needs)
+    (λ c. search needs) (λ c. search needs))

@@ -12,7 +12,8 @@ slice-aggregate-hex-2 : tie.Need-slice-aggregate-hex-2
 slice-aggregate-hex-2 c = simp length-take (omega arith)
 
 pub reply-spec : {M : Type 1} → statement M
-reply-spec {M} =
-    let first = tie.spec {M = M} (λ c. search needs) (λ c κs. search needs) (λ c. search needs) slice-aggregate-hex (λ c κs. search needs) in
-    let second = first (λ c. search needs) slice-aggregate-hex-2 (λ c κs. search needs) (λ c. search needs) (λ c κs. search needs) in
-    tie.close (second (λ c κs. search needs) (λ c. search needs))
+reply-spec =
+    tie.close
+    (tie.spec (λ c. search needs) (λ c κs. search needs) (λ c. search needs) slice-aggregate-hex (λ c κs. search needs)
+    (λ c. search needs) slice-aggregate-hex-2 (λ c κs. search needs) (λ c. search needs) (λ c κs. search needs)
+    (λ c κs. search needs) (λ c. search needs))

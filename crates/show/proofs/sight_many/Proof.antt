@@ -13,7 +13,8 @@ abbrev μ-loop : tie.MeasureT-loop
 μ-loop store₀ desk n first count₀ i₀ store count i = n - i
 
 pub sight-many-spec : {M : Type 1} → statement M
-sight-many-spec {M} =
-    let first = tie.spec {M = M} Inv-loop μ-loop (λ c. search needs) (λ c. search needs) (λ c. search needs) (λ c. search needs) in
-    let second = first (λ c κs. search needs) (λ c κs. search needs) (λ c. search needs) (λ c. search needs) (λ c. search needs) in
-    tie.close (second (λ c. search needs) (λ c. search needs) (λ c. search needs))
+sight-many-spec =
+    tie.close
+    (tie.spec Inv-loop μ-loop (λ c. search needs) (λ c. search needs) (λ c. search needs) (λ c. search needs)
+    (λ c κs. search needs) (λ c κs. search needs) (λ c. search needs) (λ c. search needs) (λ c. search needs) (λ c. search needs)
+    (λ c. search needs) (λ c. search needs))

@@ -17,7 +17,8 @@ loop-again : tie.Need-loop-again Inv-loop μ-loop
 loop-again c = ⊎-elim (λ w. search needs) (λ w. search needs) (c .if1 .came)
 
 pub unhex-spec : {M : Type 1} → statement M
-unhex-spec {M} =
-    let first = tie.spec {M = M} Inv-loop μ-loop (λ c. search needs) (λ c. search needs) (λ c κs. search needs) (λ c κs. search needs) in
-    let second = first (λ c. search needs) (λ c. search needs) (λ c κs. search needs) (λ c. search needs) (λ c. search needs) (λ c. search needs) in
-    tie.close (second loop-again (λ c. search needs) (λ c. search needs))
+unhex-spec =
+    tie.close
+    (tie.spec Inv-loop μ-loop (λ c. search needs) (λ c. search needs) (λ c κs. search needs) (λ c κs. search needs)
+    (λ c. search needs) (λ c. search needs) (λ c κs. search needs) (λ c. search needs) (λ c. search needs) (λ c. search needs)
+    loop-again (λ c. search needs) (λ c. search needs))

@@ -26,12 +26,5 @@ returns c =
 pub sight-spec : {M : Type 1} → statement M
 sight-spec =
     tie.close
-    (tie.spec
-    (λ c κs. search needs)
-    (λ c. search needs)
-    (λ c. search needs)
-    unlocked-requires
-    (λ c. search needs)
-    returns
-    (λ c. search needs)
-    (λ c. search needs))
+    (tie.spec (λ c κs. search needs) (λ c. search needs) (λ c. search needs) unlocked-requires (λ c. search needs) returns
+    (λ c. search needs) (λ c. search needs))

@@ -35,13 +35,4 @@ returns c = ticked-all _ _ _ (omega arith) (c .before .loop .inv .1)
 pub tick-spec : {M : Type 1} → statement M
 tick-spec =
     tie.close
-    (tie.spec
-    Inv-loop
-    μ-loop
-    loop-holds
-    tick-desk-requires
-    (λ c. search needs)
-    (λ c. search needs)
-    loop-again
-    same-length
-    returns)
+    (tie.spec Inv-loop μ-loop loop-holds tick-desk-requires (λ c. search needs) (λ c. search needs) loop-again same-length returns)

@@ -55,15 +55,5 @@ returns-2 c =
 pub unlocked-spec : {M : Type 1} → statement M
 unlocked-spec =
     tie.close
-    (tie.spec
-    (λ c. search needs)
-    (λ c κs. search needs)
-    act-requires
-    (λ c. search needs)
-    returns
-    (λ c κs. search needs)
-    (λ c κs. search needs)
-    add-record-requires
-    act-requires-2
-    (λ c. search needs)
-    returns-2)
+    (tie.spec (λ c. search needs) (λ c κs. search needs) act-requires (λ c. search needs) returns (λ c κs. search needs)
+    (λ c κs. search needs) add-record-requires act-requires-2 (λ c. search needs) returns-2)

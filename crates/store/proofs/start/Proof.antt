@@ -15,4 +15,6 @@ returns-2 : tie.Need-returns-2
 returns-2 c = (c .get16 .ensures ∙ sym (start-read _ _ (c .before .before .before .pre .0) (c .before .if1 .left)), omega arith)
 
 pub start-spec : {M : Type 1} → statement M
-start-spec = tie.close (tie.spec returns (λ c. search needs) (λ c. search needs) (λ c κs. search needs) (λ c. search needs) returns-2)
+start-spec =
+    tie.close
+    (tie.spec returns (λ c. search needs) (λ c. search needs) (λ c κs. search needs) (λ c. search needs) returns-2)

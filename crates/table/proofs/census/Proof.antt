@@ -55,18 +55,5 @@ returns-2 c =
 pub census-spec : {M : Type 1} → statement M
 census-spec =
     tie.close
-    (tie.spec
-    Inv-loop
-    μ-loop
-    loop-holds
-    (λ c κs. search needs)
-    (λ c. search needs)
-    returns
-    (λ c. search needs)
-    (λ c. search needs)
-    add-c
-    (λ c. search needs)
-    (λ c. search needs)
-    (λ c. search needs)
-    loop-again
-    returns-2)
+    (tie.spec Inv-loop μ-loop loop-holds (λ c κs. search needs) (λ c. search needs) returns (λ c. search needs)
+    (λ c. search needs) add-c (λ c. search needs) (λ c. search needs) (λ c. search needs) loop-again returns-2)

@@ -34,14 +34,5 @@ returns-2 c = sym (every-end desks _ (c .before .loop .d) (c .before .loop .inv 
 pub shares-ok-spec : {M : Type 1} → statement M
 shares-ok-spec =
     tie.close
-    (tie.spec
-    Inv-loop
-    μ-loop
-    loop-holds
-    (λ c. search needs)
-    (λ c. search needs)
-    returns
-    (λ c. search needs)
-    (λ c. search needs)
-    loop-again
-    returns-2)
+    (tie.spec Inv-loop μ-loop loop-holds (λ c. search needs) (λ c. search needs) returns (λ c. search needs) (λ c. search needs)
+    loop-again returns-2)

@@ -37,6 +37,7 @@ returns-4 c =
     (c .all-hex .ensures ∙ ap (allOf isHex) (rest-of 2 s))
 
 pub is-sighting-spec : {M : Type 1} → statement M
-is-sighting-spec {M} =
-    let first = tie.spec {M = M} returns (λ c. search needs) returns-2 (λ c. search needs) (λ c κs. search needs) returns-3 (λ c. search needs) in
-    tie.close (first (λ c. search needs) (λ c. search needs) (λ c κs. search needs) returns-4)
+is-sighting-spec =
+    tie.close
+    (tie.spec returns (λ c. search needs) returns-2 (λ c. search needs) (λ c κs. search needs) returns-3 (λ c. search needs)
+    (λ c. search needs) (λ c. search needs) (λ c κs. search needs) returns-4)

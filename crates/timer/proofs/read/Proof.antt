@@ -37,6 +37,4 @@ returns c =
     rw (h, m, u16At-part 2 (a .at) 4 s (lit≤ tt), c .get16 .ensures)
 
 pub read-spec : {M : Type 1} → statement M
-read-spec =
-    tie.close
-    (tie.spec shared-slice-read-t4 add-t5 shared-slice-read-t7 add-get16 get16-requires returns)
+read-spec = tie.close (tie.spec shared-slice-read-t4 add-t5 shared-slice-read-t7 add-get16 get16-requires returns)

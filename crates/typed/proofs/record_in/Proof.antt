@@ -49,4 +49,5 @@ returns-2 c =
 pub record-in-spec : {M : Type 1} → statement M
 record-in-spec =
     tie.close
-    (tie.spec (λ c κs. search needs) returns mul-at add-at number64-requires add-read read-requires add-t4 shared-slice-read-t10 returns-2)
+    (tie.spec (λ c κs. search needs) returns mul-at add-at number64-requires add-read read-requires add-t4 shared-slice-read-t10
+    returns-2)

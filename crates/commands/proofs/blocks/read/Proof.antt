@@ -16,12 +16,5 @@ copy-to-requires c κs =
 pub read-spec : {M : Type 1} → statement M
 read-spec =
     tie.close
-    (tie.spec
-    (λ c. search needs)
-    (λ c κs. search needs)
-    (λ c κs. search needs)
-    (λ c κs. search (needs, read-names))
-    (λ c κs. search needs)
-    copy-to-requires
-    (λ c. search needs)
-    (λ c. search read-done))
+    (tie.spec (λ c. search needs) (λ c κs. search needs) (λ c κs. search needs) (λ c κs. search (needs, read-names))
+    (λ c κs. search needs) copy-to-requires (λ c. search needs) (λ c. search read-done))

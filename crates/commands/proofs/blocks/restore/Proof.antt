@@ -7,17 +7,6 @@ use Rattle.commands.proofs.blocks.restore.Tie as tie
 pub restore-spec : {M : Type 1} → statement M
 restore-spec =
     tie.close
-    (tie.spec
-    (λ c. search needs)
-    (λ c κs. search needs)
-    (λ c κs. search needs)
-    (λ c κs. search needs)
-    (λ c κs. search needs)
-    (λ c. search needs)
-    (λ c. search restore-all-done)
-    (λ c κs. search needs)
-    (λ c κs. search needs)
-    (λ c κs. search (needs, restore-names))
-    (λ c κs. search needs)
-    (λ c. search needs)
-    (λ c. search restore-one-done))
+    (tie.spec (λ c. search needs) (λ c κs. search needs) (λ c κs. search needs) (λ c κs. search needs) (λ c κs. search needs)
+    (λ c. search needs) (λ c. search restore-all-done) (λ c κs. search needs) (λ c κs. search needs)
+    (λ c κs. search (needs, restore-names)) (λ c κs. search needs) (λ c. search needs) (λ c. search restore-one-done))

@@ -7,15 +7,6 @@ use Rattle.commands.proofs.blocks.save.Tie as tie
 pub save-spec : {M : Type 1} → statement M
 save-spec =
     tie.close
-    (tie.spec
-    (λ c. search needs)
-    (λ c κs. search needs)
-    (λ c κs. search needs)
-    (λ c κs. search needs)
-    (λ c. search needs)
-    (λ c. search save-all-done)
-    (λ c κs. search needs)
-    (λ c κs. search (needs, save-names))
-    (λ c κs. search needs)
-    (λ c. search needs)
-    (λ c. search save-one-done))
+    (tie.spec (λ c. search needs) (λ c κs. search needs) (λ c κs. search needs) (λ c κs. search needs) (λ c. search needs)
+    (λ c. search save-all-done) (λ c κs. search needs) (λ c κs. search (needs, save-names)) (λ c κs. search needs)
+    (λ c. search needs) (λ c. search save-one-done))

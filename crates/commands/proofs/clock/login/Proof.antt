@@ -7,10 +7,5 @@ use Rattle.commands.proofs.clock.login.Tie as tie
 pub login-spec : {M : Type 1} → statement M
 login-spec =
     tie.close
-    (tie.spec
-    (λ c κs. search needs)
-    (λ c κs. search needs)
-    (λ c κs. search needs)
-    (λ c κs. search needs)
-    (λ c. search needs)
+    (tie.spec (λ c κs. search needs) (λ c κs. search needs) (λ c κs. search needs) (λ c κs. search needs) (λ c. search needs)
     (λ c. search login-done))

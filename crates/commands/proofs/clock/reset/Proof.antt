@@ -5,10 +5,4 @@ use Rattle.commands.proofs.clock.reset.Statement.{statement}
 use Rattle.commands.proofs.clock.reset.Tie as tie
 
 pub reset-spec : {M : Type 1} → statement M
-reset-spec =
-    tie.close
-    (tie.spec
-    (λ c κs. search needs)
-    (λ c κs. search needs)
-    (λ c. search needs)
-    (λ c. search reset-done))
+reset-spec = tie.close (tie.spec (λ c κs. search needs) (λ c κs. search needs) (λ c. search needs) (λ c. search reset-done))

@@ -5,10 +5,4 @@ use Rattle.commands.proofs.clock.set_timer.Statement.{statement}
 use Rattle.commands.proofs.clock.set_timer.Tie as tie
 
 pub set-timer-spec : {M : Type 1} → statement M
-set-timer-spec =
-    tie.close
-    (tie.spec
-    (λ c κs. search needs)
-    (λ c κs. search needs)
-    (λ c. search needs)
-    (λ c. search set-done))
+set-timer-spec = tie.close (tie.spec (λ c κs. search needs) (λ c κs. search needs) (λ c. search needs) (λ c. search set-done))

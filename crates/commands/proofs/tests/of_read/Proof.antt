@@ -26,12 +26,4 @@ returns-3 c =
     rw (passed (c .before .before .before .names-one .ensures) (c .before .before .if1 .left), ne-eqb _ 0 (λ q. c .if2 .left (k ∙ q)))
 
 pub of-read-spec : {M : Type 1} → statement M
-of-read-spec =
-    tie.close
-    (tie.spec
-    (λ c. search needs)
-    (λ c κs. search needs)
-    returns
-    (λ c κs. search needs)
-    returns-2
-    returns-3)
+of-read-spec = tie.close (tie.spec (λ c. search needs) (λ c κs. search needs) returns (λ c κs. search needs) returns-2 returns-3)

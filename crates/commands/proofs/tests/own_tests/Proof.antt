@@ -59,33 +59,8 @@ returns-9 c = rw (c .enum-told9 .given .1)
 pub own-tests-spec : {M : Type 1} → statement M
 own-tests-spec =
     tie.close
-    (tie.spec
-    (λ c. search needs)
-    shared-slice-read-given
-    (λ c κs. search needs)
-    (λ c. search needs)
-    (λ c. search needs)
-    of-read-requires
-    (λ c. search needs)
-    of-write-requires
-    (λ c. search needs)
-    of-save-requires
-    (λ c. search needs)
-    shared-slice-read-names-some
-    (λ c κs. search needs)
-    (λ c κs. search needs)
-    (λ c. search needs)
-    read-requires
-    (λ c κs. search needs)
-    (λ c κs. search needs)
-    (λ c. search needs)
-    (λ c. search needs)
-    returns
-    returns-2
-    (λ c. search tests-as)
-    (λ c. search tests-as)
-    (λ c. search tests-as)
-    returns-6
-    returns-7
-    returns-8
-    returns-9)
+    (tie.spec (λ c. search needs) shared-slice-read-given (λ c κs. search needs) (λ c. search needs) (λ c. search needs)
+    of-read-requires (λ c. search needs) of-write-requires (λ c. search needs) of-save-requires (λ c. search needs)
+    shared-slice-read-names-some (λ c κs. search needs) (λ c κs. search needs) (λ c. search needs) read-requires
+    (λ c κs. search needs) (λ c κs. search needs) (λ c. search needs) (λ c. search needs) returns returns-2 (λ c. search tests-as)
+    (λ c. search tests-as) (λ c. search tests-as) returns-6 returns-7 returns-8 returns-9)

@@ -6,10 +6,6 @@ use Rattle.depot_c.proofs.request.ask_of.Tie as tie
 pub ask-of-spec : {M : Type 1} → statement M
 ask-of-spec =
     tie.close
-    (tie.spec
-    (λ c κs. search needs)
-    (λ c. search needs)
-    (λ c κs. search needs)
-    (λ c. search needs)
+    (tie.spec (λ c κs. search needs) (λ c. search needs) (λ c κs. search needs) (λ c. search needs)
     (λ c. let r = c .before .before in rw (← r .before .before .decide .ensures, r .t .given .1) (c .ask-with .ensures))
     (λ c. rw (← c .before .before .decide .ensures, c .enum-told .given .1)))

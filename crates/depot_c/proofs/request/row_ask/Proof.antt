@@ -6,22 +6,6 @@ use Rattle.depot_c.proofs.request.row_ask.Tie as tie
 pub row-ask-spec : {M : Type 1} → statement M
 row-ask-spec =
     tie.close
-    (tie.spec
-    (λ c. search needs)
-    (λ c. search needs)
-    (λ c. search needs)
-    (λ c. search needs)
-    (λ c. search needs)
-    (λ c. search needs)
-    (λ c. search needs)
-    (λ c. search needs)
-    (λ c. search needs)
-    (λ c. cc)
-    (λ c. search needs)
-    (λ c. cc)
-    (λ c. cc)
-    (λ c. cc)
-    (λ c. cc)
-    (λ c. cc)
-    (λ c. search needs)
-    (λ c. cc))
+    (tie.spec (λ c. search needs) (λ c. search needs) (λ c. search needs) (λ c. search needs) (λ c. search needs)
+    (λ c. search needs) (λ c. search needs) (λ c. search needs) (λ c. search needs) (λ c. cc) (λ c. search needs) (λ c. cc)
+    (λ c. cc) (λ c. cc) (λ c. cc) (λ c. cc) (λ c. search needs) (λ c. cc))

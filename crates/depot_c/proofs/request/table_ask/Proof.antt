@@ -6,14 +6,5 @@ use Rattle.depot_c.proofs.request.table_ask.Tie as tie
 pub table-ask-spec : {M : Type 1} → statement M
 table-ask-spec =
     tie.close
-    (tie.spec
-    (λ c. search needs)
-    (λ c. search needs)
-    (λ c. search needs)
-    (λ c. search needs)
-    (λ c. search needs)
-    (λ c. search needs)
-    (λ c. cc)
-    (λ c. search needs)
-    (λ c. search needs)
-    (λ c. search needs))
+    (tie.spec (λ c. search needs) (λ c. search needs) (λ c. search needs) (λ c. search needs) (λ c. search needs)
+    (λ c. search needs) (λ c. cc) (λ c. search needs) (λ c. search needs) (λ c. search needs))

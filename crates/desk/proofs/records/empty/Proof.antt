@@ -20,10 +20,4 @@ returns c =
 pub empty-spec : {M : Type 1} → statement M
 empty-spec =
     tie.close
-    (tie.spec
-    (λ c κs. search needs)
-    (λ c. search needs)
-    remove-first-requires
-    (λ c κs. search needs)
-    (λ c. search needs)
-    returns)
+    (tie.spec (λ c κs. search needs) (λ c. search needs) remove-first-requires (λ c κs. search needs) (λ c. search needs) returns)

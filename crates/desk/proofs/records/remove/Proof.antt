@@ -29,15 +29,5 @@ returns c =
 pub remove-spec : {M : Type 1} → statement M
 remove-spec =
     tie.close
-    (tie.spec
-    (λ c κs. search needs)
-    (λ c. search needs)
-    (λ c. search needs)
-    (λ c. search needs)
-    (λ c. search needs)
-    act-requires
-    (λ c. search needs)
-    remove-first-requires
-    (λ c κs. search needs)
-    (λ c. search needs)
-    returns)
+    (tie.spec (λ c κs. search needs) (λ c. search needs) (λ c. search needs) (λ c. search needs) (λ c. search needs) act-requires
+    (λ c. search needs) remove-first-requires (λ c κs. search needs) (λ c. search needs) returns)

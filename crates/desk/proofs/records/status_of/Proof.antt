@@ -7,7 +7,5 @@ use Rattle.desk.proofs.records.status_of.Tie as tie
 pub status-of-spec : {M : Type 1} → statement M
 status-of-spec =
     tie.close
-    (tie.spec
-    (λ c. search needs)
-    (λ c. rw (c .before .if1 .left, lt-ltb _ _ (c .if2 .taken)))
+    (tie.spec (λ c. search needs) (λ c. rw (c .before .if1 .left, lt-ltb _ _ (c .if2 .taken)))
     (λ c. rw (c .before .if1 .left, le-ltb _ _ (c .if2 .left))))

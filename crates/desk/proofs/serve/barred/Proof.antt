@@ -15,4 +15,6 @@ returns-2 c =
     rw (not-false (m .before .before .before .args .login) (m .before .if1 .left)) (ap (λ (x : Marks). not (x .logged_in)) (m .marks-of .ensures))
 
 pub barred-spec : {M : Type 1} → statement M
-barred-spec = tie.close (tie.spec (λ c. rw (not-true (c .before .before .args .login) (c .if1 .taken))) (λ c κs. search needs) returns-2)
+barred-spec =
+    tie.close
+    (tie.spec (λ c. rw (not-true (c .before .before .args .login) (c .if1 .taken))) (λ c κs. search needs) returns-2)

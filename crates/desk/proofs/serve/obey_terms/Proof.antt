@@ -38,14 +38,5 @@ returns-3 c =
 pub obey-terms-spec : {M : Type 1} → statement M
 obey-terms-spec =
     tie.close
-    (tie.spec
-    (λ c κs. search needs)
-    returns
-    (λ c κs. search needs)
-    (λ c κs. search needs)
-    (λ c. search needs)
-    returns-2
-    dispatch-requires
-    (λ c. search needs)
-    (λ c. search needs)
-    returns-3)
+    (tie.spec (λ c κs. search needs) returns (λ c κs. search needs) (λ c κs. search needs) (λ c. search needs) returns-2
+    dispatch-requires (λ c. search needs) (λ c. search needs) returns-3)

@@ -25,13 +25,7 @@ returns c =
 pub on-row-spec : {M : Type 1} → statement M
 on-row-spec =
     tie.close
-    (tie.spec
-    (λ c κs. let z = c .before .before .before .before in (z .pre .1, omega (arith, sound-size _ (z .pre .0))))
-    (λ c. search needs)
-    (λ c. search needs)
-    (λ c. search needs)
+    (tie.spec (λ c κs. let z = c .before .before .before .before in (z .pre .1, omega (arith, sound-size _ (z .pre .0))))
+    (λ c. search needs) (λ c. search needs) (λ c. search needs)
     (λ c. let z = c .before .before .before .before .before in omega (arith, lent-inside _ (z .pre .0) (z .args .d) (z .pre .1) _ (c .row-at .ensures .0)))
-    obey-requires
-    (λ c. search needs)
-    (λ c. search needs)
-    returns)
+    obey-requires (λ c. search needs) (λ c. search needs) returns)

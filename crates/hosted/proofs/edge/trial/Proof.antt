@@ -9,6 +9,7 @@ slice-aggregate-fill : tie.Need-slice-aggregate-fill
 slice-aggregate-fill c = simp length-take (omega arith)
 
 pub trial-spec : {M : Type 1} → statement M
-trial-spec {M} =
-    let first = tie.spec {M = M} (λ c κs. search needs) (λ c. search needs) (λ c. search needs) (λ c. search needs) slice-aggregate-fill in
-    tie.close (first (λ c κs. search needs) (λ c. search needs) (λ c. search needs))
+trial-spec =
+    tie.close
+    (tie.spec (λ c κs. search needs) (λ c. search needs) (λ c. search needs) (λ c. search needs) slice-aggregate-fill
+    (λ c κs. search needs) (λ c. search needs) (λ c. search needs))

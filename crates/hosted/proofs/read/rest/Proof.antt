@@ -12,6 +12,7 @@ abbrev μ-loop : tie.MeasureT-loop
 μ-loop text n at₀ k₀ at k = n - k
 
 pub rest-spec : {M : Type 1} → statement M
-rest-spec {M} =
-    let first = tie.spec {M = M} Inv-loop μ-loop (λ c. search needs) (λ c κs. search needs) (λ c κs. search needs) (λ c. search needs) in
-    tie.close (first (λ c. search needs) (λ c. search needs) (λ c. search needs) (λ c. search needs) (λ c. search needs) (λ c. search needs))
+rest-spec =
+    tie.close
+    (tie.spec Inv-loop μ-loop (λ c. search needs) (λ c κs. search needs) (λ c κs. search needs) (λ c. search needs)
+    (λ c. search needs) (λ c. search needs) (λ c. search needs) (λ c. search needs) (λ c. search needs) (λ c. search needs))

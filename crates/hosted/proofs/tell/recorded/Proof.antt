@@ -11,6 +11,7 @@ abbrev μ-loop : tie.MeasureT-loop
 μ-loop sent n i₀ i = n - i
 
 pub recorded-spec : {M : Type 1} → statement M
-recorded-spec {M} =
-    let first = tie.spec {M = M} Inv-loop μ-loop (λ c κs. search needs) (λ c. search needs) (λ c κs. search needs) (λ c. search needs) in
-    tie.close (first (λ c. search needs) (λ c. search needs) (λ c. search needs))
+recorded-spec =
+    tie.close
+    (tie.spec Inv-loop μ-loop (λ c κs. search needs) (λ c. search needs) (λ c κs. search needs) (λ c. search needs)
+    (λ c. search needs) (λ c. search needs) (λ c. search needs))

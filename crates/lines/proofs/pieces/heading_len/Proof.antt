@@ -13,9 +13,4 @@ returns : tie.Need-returns
 returns c = (sym (heading-length _ (c .before .pre .0) (c .before .pre .1)), refl, nibbles _ (c .before .pre .1) .0)
 
 pub heading-len-spec : {M : Type 1} → statement M
-heading-len-spec =
-    tie.close
-    (tie.spec
-    (λ c. search needs)
-    cast-result
-    returns)
+heading-len-spec = tie.close (tie.spec (λ c. search needs) cast-result returns)

@@ -10,7 +10,4 @@ unfolding part
 returns c = record { small = lit≤ tt; size = refl; text = refl }
 
 pub one-spec : {M : Type 1} → statement M
-one-spec =
-    tie.close
-    (tie.spec
-    returns)
+one-spec = tie.close (tie.spec returns)

@@ -67,18 +67,6 @@ returns c =
 pub put-line-spec : {M : Type 1} → statement M
 put-line-spec =
     tie.close
-    (tie.spec
-    (λ c. search needs)
-    put-heading-requires
-    (λ c. simp length-take (omega arith))
-    put-shown-requires
-    (λ c κs. search needs)
-    put-mark-requires
-    (λ c. search needs)
-    (λ c. search needs)
-    (λ c. search needs)
-    put-shown-requires-2
-    (λ c κs. search needs)
-    put-mark-requires-2
-    (λ c. search needs)
-    returns)
+    (tie.spec (λ c. search needs) put-heading-requires (λ c. simp length-take (omega arith)) put-shown-requires
+    (λ c κs. search needs) put-mark-requires (λ c. search needs) (λ c. search needs) (λ c. search needs) put-shown-requires-2
+    (λ c κs. search needs) put-mark-requires-2 (λ c. search needs) returns)

@@ -14,10 +14,5 @@ returns c = (refl, c .before .before .copy-to .ensures)
 pub put-mark-spec : {M : Type 1} → statement M
 put-mark-spec =
     tie.close
-    (tie.spec
-    (λ c. omega arith)
-    (λ c. simp length-take (omega arith))
-    (λ c κs. simp length-take (omega arith))
-    (λ c. search needs)
-    (λ c. search needs)
-    returns)
+    (tie.spec (λ c. omega arith) (λ c. simp length-take (omega arith)) (λ c κs. simp length-take (omega arith))
+    (λ c. search needs) (λ c. search needs) returns)

@@ -34,13 +34,5 @@ returns-2 c =
 pub put-shown-spec : {M : Type 1} → statement M
 put-shown-spec =
     tie.close
-    (tie.spec
-    put-hex-requires
-    (λ c. search needs)
-    add-result
-    (λ c. search needs)
-    returns
-    copy-to-requires
-    (λ c. search needs)
-    (λ c. search needs)
-    returns-2)
+    (tie.spec put-hex-requires (λ c. search needs) add-result (λ c. search needs) returns copy-to-requires (λ c. search needs)
+    (λ c. search needs) returns-2)

@@ -14,10 +14,4 @@ returns c =
     rw (part-one 2 (z .args .block .now) (omega arith)) (unfold part in c .mark-of .ensures)
 
 pub separator-of-spec : {M : Type 1} → statement M
-separator-of-spec =
-    tie.close
-    (tie.spec
-    (λ c. search needs)
-    (λ c. search needs)
-    (λ c κs. search needs)
-    returns)
+separator-of-spec = tie.close (tie.spec (λ c. search needs) (λ c. search needs) (λ c κs. search needs) returns)

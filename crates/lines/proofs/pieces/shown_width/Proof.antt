@@ -14,8 +14,4 @@ unfolding shownWidth
 returns-2 c = (rw (ne-eqb _ 2 (c .if1 .left)), omega arith, omega arith)
 
 pub shown-width-spec : {M : Type 1} → statement M
-shown-width-spec =
-    tie.close
-    (tie.spec
-    returns
-    returns-2)
+shown-width-spec = tie.close (tie.spec returns returns-2)

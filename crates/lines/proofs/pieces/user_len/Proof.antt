@@ -12,10 +12,4 @@ returns-2 : tie.Need-returns-2
 returns-2 c = (omega arith, omega (arith, nibbles _ (c .before .before .pre .1) .1))
 
 pub user-len-spec : {M : Type 1} → statement M
-user-len-spec =
-    tie.close
-    (tie.spec
-    (λ c. search needs)
-    (λ c. search needs)
-    returns
-    returns-2)
+user-len-spec = tie.close (tie.spec (λ c. search needs) (λ c. search needs) returns returns-2)

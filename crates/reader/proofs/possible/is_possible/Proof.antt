@@ -22,4 +22,6 @@ unfolding possible
 returns-3 c = rw (sym (c .before .before .before .before .no-desk .ensures) ∙ c .before .before .before .if1 .left, passed (c .before .before .fields-hold .ensures) (c .before .if2 .left)) (c .may-answer .ensures)
 
 pub is-possible-spec : {M : Type 1} → statement M
-is-possible-spec = tie.close (tie.spec (λ c κs. search needs) returns (λ c κs. search needs) returns-2 may-answer-requires returns-3)
+is-possible-spec =
+    tie.close
+    (tie.spec (λ c κs. search needs) returns (λ c κs. search needs) returns-2 may-answer-requires returns-3)

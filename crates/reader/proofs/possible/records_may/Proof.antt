@@ -52,5 +52,5 @@ returns-5 c =
 pub records-may-spec : {M : Type 1} → statement M
 records-may-spec =
     tie.close
-    (tie.spec (λ c κs. search needs) mul-if1 add-if1 returns returns-2 (λ c κs. search needs) returns-3 (λ c κs. search needs) returns-4
-    (λ c κs. search needs) returns-5)
+    (tie.spec (λ c κs. search needs) mul-if1 add-if1 returns returns-2 (λ c κs. search needs) returns-3 (λ c κs. search needs)
+    returns-4 (λ c κs. search needs) returns-5)

@@ -32,7 +32,8 @@ returns-11 c = cc
 pub fields-hold-spec : {M : Type 1} → statement M
 fields-hold-spec =
     tie.close
-    (tie.spec (λ c. search needs) (λ c. search needs) (λ c. search needs) (λ c. search needs) (λ c. search needs) (λ c. search needs)
-    (λ c. search needs) (λ c. search needs) (λ c κs. search needs) (λ c. search needs) (λ c. search needs) (λ c. search needs)
-    (λ c. search needs) (λ c. search needs) (λ c. search needs) returns (λ c. search needs) (λ c. search needs) returns-4 returns-5
-    returns-6 returns-7 returns-8 (λ c. search needs) returns-10 returns-11 (λ c. search needs) (λ c. search needs) (λ c. search needs))
+    (tie.spec (λ c. search needs) (λ c. search needs) (λ c. search needs) (λ c. search needs) (λ c. search needs)
+    (λ c. search needs) (λ c. search needs) (λ c. search needs) (λ c κs. search needs) (λ c. search needs) (λ c. search needs)
+    (λ c. search needs) (λ c. search needs) (λ c. search needs) (λ c. search needs) returns (λ c. search needs)
+    (λ c. search needs) returns-4 returns-5 returns-6 returns-7 returns-8 (λ c. search needs) returns-10 returns-11
+    (λ c. search needs) (λ c. search needs) (λ c. search needs))

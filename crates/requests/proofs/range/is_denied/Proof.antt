@@ -83,9 +83,9 @@ returns-14 c = denied-as _ _ (search needs) (c .enum-told6 .given .1)
 pub is-denied-spec : {M : Type 1} → statement M
 is-denied-spec =
     tie.close
-    (tie.spec (λ c. search needs) (λ c. search needs) (λ c. search needs) (λ c. search needs) cast-names-one (λ c κs. search needs)
-    (λ c. search needs) cast-write-denied (λ c κs. search needs) (λ c. search needs) cast-save-denied (λ c κs. search needs)
-    (λ c. search needs) cast-names-some (λ c κs. search needs) (λ c. search needs) cast-t22 cast-t23 cast-t24 (λ c κs. search needs)
-    (λ c. search needs) (λ c. search needs) (λ c. search needs) (λ c. search needs) (λ c. search needs) (λ c. search needs) returns
-    returns-2 returns-3 returns-4 returns-5 returns-6 returns-7 returns-8 returns-9 returns-10 returns-11 returns-12 returns-13
-    returns-14)
+    (tie.spec (λ c. search needs) (λ c. search needs) (λ c. search needs) (λ c. search needs) cast-names-one
+    (λ c κs. search needs) (λ c. search needs) cast-write-denied (λ c κs. search needs) (λ c. search needs) cast-save-denied
+    (λ c κs. search needs) (λ c. search needs) cast-names-some (λ c κs. search needs) (λ c. search needs) cast-t22 cast-t23
+    cast-t24 (λ c κs. search needs) (λ c. search needs) (λ c. search needs) (λ c. search needs) (λ c. search needs)
+    (λ c. search needs) (λ c. search needs) returns returns-2 returns-3 returns-4 returns-5 returns-6 returns-7 returns-8
+    returns-9 returns-10 returns-11 returns-12 returns-13 returns-14)

@@ -23,6 +23,4 @@ unfolding namesSome exists
 returns-2 c = rw (sym (c .before .before .all-blocks .ensures) ∙ c .before .if1 .left, c .block-of2 .ensures .0)
 
 pub names-some-spec : {M : Type 1} → statement M
-names-some-spec =
-    tie.close
-    (tie.spec all-blocks-requires block-of-requires returns block-of-requires-2 returns-2)
+names-some-spec = tie.close (tie.spec all-blocks-requires block-of-requires returns block-of-requires-2 returns-2)

@@ -8,10 +8,6 @@ use Rattle.rules.proofs.control.terms_of.Tie as tie
 pub terms-of-spec : {M : Type 1} → statement M
 terms-of-spec =
     tie.close
-    (tie.spec
-    (λ c. search needs)
-    (λ c κs. search needs)
-    (λ c. search needs)
-    (λ c κs. search needs)
+    (tie.spec (λ c. search needs) (λ c κs. search needs) (λ c. search needs) (λ c κs. search needs)
     (λ c. told (λ (x : Command). x) _ _ _ (c .before .before .command .given .1) (c .row-terms .ensures))
     (λ c. told (λ (x : Command). x) _ _ _ (c .before .before .command2 .given .1) (c .table-terms .ensures)))

@@ -46,17 +46,5 @@ returns-3 c =
 pub area-fits-spec : {M : Type 1} → statement M
 area-fits-spec =
     tie.close
-    (tie.spec
-    Inv-loop
-    μ-loop
-    (λ c κs. search needs)
-    (λ c κs. search needs)
-    (λ c. search needs)
-    returns
-    (λ c. (omega arith, every-none _))
-    (λ c κs. omega arith)
-    returns-2
-    (λ c. omega arith)
-    (λ c. omega arith)
-    loop-again
-    returns-3)
+    (tie.spec Inv-loop μ-loop (λ c κs. search needs) (λ c κs. search needs) (λ c. search needs) returns
+    (λ c. (omega arith, every-none _)) (λ c κs. omega arith) returns-2 (λ c. omega arith) (λ c. omega arith) loop-again returns-3)

@@ -20,11 +20,5 @@ returns c =
 pub desk-sound-spec : {M : Type 1} → statement M
 desk-sound-spec =
     tie.close
-    (tie.spec
-    (λ c κs. search needs)
-    (λ c. search needs)
-    (λ c. search needs)
-    (λ c. search needs)
-    part-row-sound-end
-    (λ c κs. search needs)
-    returns)
+    (tie.spec (λ c κs. search needs) (λ c. search needs) (λ c. search needs) (λ c. search needs) part-row-sound-end
+    (λ c κs. search needs) returns)

@@ -36,14 +36,5 @@ returns-2 c =
 pub header-fine-spec : {M : Type 1} → statement M
 header-fine-spec =
     tie.close
-    (tie.spec
-    Inv-loop
-    μ-loop
-    (λ c. (omega arith, every-none _))
-    (λ c κs. omega arith)
-    returns
-    (λ c. omega arith)
-    (λ c. omega arith)
-    loop-again
-    (λ c κs. search needs)
-    returns-2)
+    (tie.spec Inv-loop μ-loop (λ c. (omega arith, every-none _)) (λ c κs. omega arith) returns (λ c. omega arith)
+    (λ c. omega arith) loop-again (λ c κs. search needs) returns-2)

@@ -30,13 +30,5 @@ returns-2 c =
 pub locks-right-spec : {M : Type 1} → statement M
 locks-right-spec =
     tie.close
-    (tie.spec
-    (λ c. search needs)
-    returns
-    (λ c. search needs)
-    (λ c. search needs)
-    (λ c. search needs)
-    cast-legal
-    (λ c κs. search needs)
-    (λ c κs. (omega arith, simp (length-take, length-drop) (omega arith)))
-    returns-2)
+    (tie.spec (λ c. search needs) returns (λ c. search needs) (λ c. search needs) (λ c. search needs) cast-legal
+    (λ c κs. search needs) (λ c κs. (omega arith, simp (length-take, length-drop) (omega arith))) returns-2)

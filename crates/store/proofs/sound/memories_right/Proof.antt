@@ -14,5 +14,4 @@ unfolding field
 returns-2 c = rw (passed (c .before .before .memory-right .ensures) (c .before .if1 .left)) (c .memory-right2 .ensures)
 
 pub memories-right-spec : {M : Type 1} → statement M
-memories-right-spec =
-    tie.close (tie.spec (λ c κs. search needs) returns (λ c κs. search needs) returns-2)
+memories-right-spec = tie.close (tie.spec (λ c κs. search needs) returns (λ c κs. search needs) returns-2)

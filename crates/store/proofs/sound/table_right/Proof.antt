@@ -34,12 +34,4 @@ returns-4 c =
 pub table-right-spec : {M : Type 1} → statement M
 table-right-spec =
     tie.close
-    (tie.spec
-    returns
-    (λ c κs. search needs)
-    returns-2
-    (λ c. search needs)
-    cast-if3
-    returns-3
-    (λ c. search needs)
-    returns-4)
+    (tie.spec returns (λ c κs. search needs) returns-2 (λ c. search needs) cast-if3 returns-3 (λ c. search needs) returns-4)

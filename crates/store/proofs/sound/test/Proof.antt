@@ -24,5 +24,4 @@ returns-3 c =
     rw (eq-eqb _ _ (b .before .before .if1 .left), passed (b .before .header-fine .ensures) (b .if2 .left)) (c .contents-sound .ensures)
 
 pub test-spec : {M : Type 1} → statement M
-test-spec =
-    tie.close (tie.spec returns (λ c κs. search needs) returns-2 contents-sound-requires returns-3)
+test-spec = tie.close (tie.spec returns (λ c κs. search needs) returns-2 contents-sound-requires returns-3)

@@ -33,6 +33,7 @@ returns-2 : tie.Need-returns-2 Inv-loop μ-loop
 returns-2 c = let l = c .before .loop in all-end isHex _ (l .i) (l .inv .1) (omega arith)
 
 pub all-hex-spec : {M : Type 1} → statement M
-all-hex-spec {M} =
-    let first = tie.spec {M = M} Inv-loop μ-loop loop-holds (λ c. omega arith) (λ c κs. tt) returns (λ c. omega arith) (λ c. omega arith) in
-    tie.close (first loop-again returns-2)
+all-hex-spec =
+    tie.close
+    (tie.spec Inv-loop μ-loop loop-holds (λ c. omega arith) (λ c κs. tt) returns (λ c. omega arith) (λ c. omega arith) loop-again
+    returns-2)

@@ -35,7 +35,8 @@ returns c =
     (c .before .before .least .ensures .0, rw (← e) (l .inv .2))
 
 pub decode-spec : {M : Type 1} → statement M
-decode-spec {M} =
-    let first = tie.spec {M = M} Inv-loop μ-loop (λ c κs. tt) loop-holds (λ c. omega arith) (λ c. omega arith) (λ c κs. tt) (λ c. omega arith) in
-    let second = first (λ c. omega arith) (λ c. omega arith) (λ c. omega arith) (λ c κs. tt) (λ c. omega arith) (λ c. omega arith) in
-    tie.close (second (λ c. omega arith) (λ c. omega arith) loop-again (λ c. omega arith) returns)
+decode-spec =
+    tie.close
+    (tie.spec Inv-loop μ-loop (λ c κs. tt) loop-holds (λ c. omega arith) (λ c. omega arith) (λ c κs. tt) (λ c. omega arith)
+    (λ c. omega arith) (λ c. omega arith) (λ c. omega arith) (λ c κs. tt) (λ c. omega arith) (λ c. omega arith) (λ c. omega arith)
+    (λ c. omega arith) loop-again (λ c. omega arith) returns)

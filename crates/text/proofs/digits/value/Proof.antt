@@ -47,6 +47,7 @@ returns-4 c =
     (no-value _ (not-1 (c .before .before .before .before)) (not-2 (c .before .before)) (sym (c .before .between3 .ensures) ∙ c .if3 .left), omega arith)
 
 pub value-spec : {M : Type 1} → statement M
-value-spec {M} =
-    let first = tie.spec {M = M} (λ c κs. search needs) sub-result returns (λ c κs. search needs) sub-result-2 returns-2 (λ c κs. search needs) in
-    tie.close (first sub-result-3 returns-3 returns-4)
+value-spec =
+    tie.close
+    (tie.spec (λ c κs. search needs) sub-result returns (λ c κs. search needs) sub-result-2 returns-2 (λ c κs. search needs)
+    sub-result-3 returns-3 returns-4)

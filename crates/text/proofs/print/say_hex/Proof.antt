@@ -24,4 +24,6 @@ returns c =
     record { count-is = omega (arith, hex-line-length (a .s .now)); output-is = hex-line-put (a .s .now) (a .out .now) _ (p .put-hex .ensures) }
 
 pub say-hex-spec : {M : Type 1} → statement M
-say-hex-spec = tie.close (tie.spec put-hex-requires (λ c. search needs) slice-write-out (λ c. search needs) (λ c. search needs) returns)
+say-hex-spec =
+    tie.close
+    (tie.spec put-hex-requires (λ c. search needs) slice-write-out (λ c. search needs) (λ c. search needs) returns)

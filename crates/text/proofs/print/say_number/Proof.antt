@@ -24,6 +24,7 @@ returns c =
     }
 
 pub say-number-spec : {M : Type 1} → statement M
-say-number-spec {M} =
-    let first = tie.spec {M = M} (λ c κs. search needs) (λ c κs. search needs) (λ c. search needs) (λ c. search needs) (λ c. search needs) in
-    tie.close (first same-length returns)
+say-number-spec =
+    tie.close
+    (tie.spec (λ c κs. search needs) (λ c κs. search needs) (λ c. search needs) (λ c. search needs) (λ c. search needs)
+    same-length returns)

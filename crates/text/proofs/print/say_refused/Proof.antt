@@ -9,6 +9,6 @@ unfolding refusedLine
 returns c = let s = c .before .before in rw (← s .before .before .number .ensures) (s .say-number .ensures)
 
 pub say-refused-spec : {M : Type 1} → statement M
-say-refused-spec {M} =
-    let first = tie.spec {M = M} (λ c. search needs) (λ c κs. search needs) (λ c. search needs) (λ c κs. search needs) (λ c. search needs) in
-    tie.close (first returns)
+say-refused-spec =
+    tie.close
+    (tie.spec (λ c. search needs) (λ c κs. search needs) (λ c. search needs) (λ c κs. search needs) (λ c. search needs) returns)

@@ -17,7 +17,8 @@ unfolding seenLine
 returns-3 c = rw (c .before .before .before .before .before .enum-told3 .given .1) (c .before .before .say3 .ensures)
 
 pub say-seen-spec : {M : Type 1} → statement M
-say-seen-spec {M} =
-    let first = tie.spec {M = M} (λ c. search needs) (λ c. search needs) (λ c κs. search needs) (λ c. search needs) (λ c. search needs) in
-    let second = first (λ c κs. search needs) (λ c. search needs) (λ c. search needs) (λ c κs. search needs) (λ c. search needs) returns in
-    tie.close (second (λ c. search needs) returns-2 (λ c. search needs) returns-3)
+say-seen-spec =
+    tie.close
+    (tie.spec (λ c. search needs) (λ c. search needs) (λ c κs. search needs) (λ c. search needs) (λ c. search needs)
+    (λ c κs. search needs) (λ c. search needs) (λ c. search needs) (λ c κs. search needs) (λ c. search needs) returns
+    (λ c. search needs) returns-2 (λ c. search needs) returns-3)

@@ -33,8 +33,9 @@ unfolding printed okLine
 returns-4 c = rw (c .before .before .before .before .before .enum-told .given .1) (c .before .before .say .ensures)
 
 pub show-spec : {M : Type 1} → statement M
-show-spec {M} =
-    let first = tie.spec {M = M} (λ c. search needs) (λ c κs. search needs) (λ c. search needs) (λ c κs. search needs) in
-    let second = first (λ c. simp length-take (omega arith)) say-hex-requires (λ c. search needs) (λ c κs. search needs) (λ c. search needs) in
-    let third = second (λ c. search needs) (λ c κs. search needs) (λ c. search needs) returns (λ c. search needs) returns-2 (λ c. search needs) in
-    tie.close (third returns-3 (λ c. search needs) returns-4)
+show-spec =
+    tie.close
+    (tie.spec (λ c. search needs) (λ c κs. search needs) (λ c. search needs) (λ c κs. search needs)
+    (λ c. simp length-take (omega arith)) say-hex-requires (λ c. search needs) (λ c κs. search needs) (λ c. search needs)
+    (λ c. search needs) (λ c κs. search needs) (λ c. search needs) returns (λ c. search needs) returns-2 (λ c. search needs)
+    returns-3 (λ c. search needs) returns-4)
