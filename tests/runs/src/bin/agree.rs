@@ -2,7 +2,6 @@
 //! alone. Lines that are no event are left out, and it ends where frames and replies pass OCTETS octets.
 
 use runs::numbers;
-use second::place::REPLY_BUFFER;
 use second::gen::Gen;
 use second::listing::{event, serve, Answer, Event};
 use second::model::{Depot, Seen};
@@ -15,7 +14,7 @@ fn list(octets: &[u8]) -> String {
 
 fn event_text(event: &Event) -> String {
     match event {
-        Event::Frame(octets) => format!("frame ({}) {REPLY_BUFFER}", list(octets)),
+        Event::Frame(octets) => format!("frame ({}) replyRoom", list(octets)),
         Event::Sighting { desk, uid, mask } => format!("sighting {desk} 0x{:X} {mask}", u64::from_be_bytes(*uid)),
         Event::Tick => "tick".into(),
         Event::NotRead => unreachable!("left out"),
@@ -63,6 +62,7 @@ const MODULE: &str = "\
 -- COUNT random events, and the answers of the second program, printed by tests/runs: the rules give the same. Assumes nothing.
 use mathlib.Core.Path.{_≡_, refl}
 use mathlib.Core.List.{List, [], _∷_}
+use Rattle.frame.specs.Shape.{replyRoom}
 use Rattle.frame.specs.declared.Refusal.the-variants.{WrongLength, WrongCheck, NoDesk, OutOfRange}
 use Rattle.rules.specs.declared.Seen.the-variants.{Ignored, Lost, Recorded}
 use Rattle.rules.specs.Box.{Event, frame, sighting, tick, Answer, refused, reply, seen, ok, freshBox, run}
