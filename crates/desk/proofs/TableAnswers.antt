@@ -31,10 +31,10 @@ use Rattle.rules.proofs.Facts.{TableLegal, DeskLegal, desk-test}
 use Rattle.rules.proofs.Tables.{empty-legal, short-legal}
 use Rattle.rules.proofs.Legality.{none-legal, timer-legal, locks-legal, table-legal, restarted-legal}
 use Rattle.store.specs.Sound.{sound}
-use Rattle.rows.specs.declared.Deed.{Deed}
-use Rattle.rows.specs.declared.Deed.the-variants.{Close, Clear, Restart, Due}
+use Rattle.rows.specs.declared.Doing.{Doing}
+use Rattle.rows.specs.declared.Doing.the-variants.{Close, Clear, Restart, Due}
 use Rattle.rows.specs.Change.{onTable, closedTable}
-use Rattle.rows.specs.Deed.{doneBy}
+use Rattle.rows.specs.Doing.{doneBy}
 use Rattle.keeping.specs.declared.Marks.{Marks}
 use Rattle.keeping.specs.Kept.{kept, Says, marksOf, withHeld}
 use Rattle.keeping.proofs.Rows.{kept-legal, kept-now, says-then, unchanged}
@@ -153,21 +153,21 @@ module _ (s : List ℕ) (e : sound s ≡ true) (d : ℕ) (h : d < desks) where
         quiet s e d h RemoveRecords (withTable (shortTable (kept d s .table)) (kept d s)) r s″ (λ kind body. refl) reply
         (rw (← short-is) (says-then d closed _ s s′ s″ a (rw (kept-now d closed s s′ h a) at b)))
 
-  -- ---- 0x33 and 0x64: a deed, and then none are left
+  -- ---- 0x33 and 0x64: a doing, and then none are left
 
-  module _ (deed : Deed) (q : Empties deed (kept d s)) where
+  module _ (what : Doing) (q : Empties what (kept d s)) where
     -- a desk holds no more than its share
-    none-left : (s′ : List ℕ) → Says d (doneBy deed (kept d s)) s s′ → drop share (kept d s′ .table .held) ≡ []
+    none-left : (s′ : List ℕ) → Says d (doneBy what (kept d s)) s s′ → drop share (kept d s′ .table .held) ≡ []
     none-left s′ a = drop-of-length-le (kept d s′ .table .held) {i = share} (kept-legal s′ (a .still) d h .table .few)
 
-    bare-is : (s′ : List ℕ) → Says d (doneBy deed (kept d s)) s s′ → withHeld (drop share (kept d s′ .table .held)) (kept d s′) ≡ withHeld [] (doneBy deed (kept d s))
-    bare-is s′ a = rw (none-left s′ a, kept-now d (doneBy deed (kept d s)) s s′ h a)
+    bare-is : (s′ : List ℕ) → Says d (doneBy what (kept d s)) s s′ → withHeld (drop share (kept d s′ .table .held)) (kept d s′) ≡ withHeld [] (doneBy what (kept d s))
+    bare-is s′ a = rw (none-left s′ a, kept-now d (doneBy what (kept d s)) s s′ h a)
 
-    pub bare-legal : (s′ : List ℕ) → Says d (doneBy deed (kept d s)) s s′ → deskLegal (withHeld (drop share (kept d s′ .table .held)) (kept d s′)) ≡ true
+    pub bare-legal : (s′ : List ℕ) → Says d (doneBy what (kept d s)) s s′ → deskLegal (withHeld (drop share (kept d s′ .table .held)) (kept d s′)) ≡ true
     bare-legal s′ a = rw (bare-is s′ a) (q .bare)
 
-    pub emptied : (r : Reply) (s′ s″ : List ℕ) → r ≡ record { status = 0; len = 0 } → Says d (doneBy deed (kept d s)) s s′
-        → Says d (withHeld (drop share (kept d s′ .table .held)) (kept d s′)) s′ s″ → Emptied deed d r s s″
+    pub emptied : (r : Reply) (s′ s″ : List ℕ) → r ≡ record { status = 0; len = 0 } → Says d (doneBy what (kept d s)) s s′
+        → Says d (withHeld (drop share (kept d s′ .table .held)) (kept d s′)) s′ s″ → Emptied what d r s s″
     emptied r s′ s″ reply a b = record { plain = reply; says = says-then d _ _ s s′ s″ a (rw (bare-is s′ a) at b) }
 
   pub cleared : (r : Reply) (s′ : List ℕ) → Emptied Clear d r s s′ → Quiet ClearRecords d r s s′

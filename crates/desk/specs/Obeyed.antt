@@ -14,12 +14,12 @@ use Rattle.rules.specs.Desk.{Desk}
 use Rattle.rules.specs.Records.{mostSent, counted, sentTable}
 use Rattle.rules.specs.Legal.{deskLegal}
 use Rattle.rules.specs.Command.{Result, result, ownTests, effect, unless}
-use Rattle.rows.specs.declared.Deed.{Deed}
+use Rattle.rows.specs.declared.Doing.{Doing}
 use Rattle.rows.specs.Change.{onTable}
-use Rattle.rows.specs.Deed.{doneBy}
+use Rattle.rows.specs.Doing.{doneBy}
 use Rattle.keeping.specs.Kept.{kept, Says, withHeld}
 use Rattle.commands.specs.declared.Reply.{Reply}
-use Rattle.commands.specs.Obeyed.{Told}
+use Rattle.commands.specs.Obeyed.{Sends}
 
 -- a command with its own rule
 abbrev pub ruled : Command → Kind → Desk → List ℕ → Result
@@ -32,7 +32,7 @@ sends kind wanted d =
     result (cond (d .table .overflow) 0x93 (cond (ltb n wanted) 0x94 0x00)) (counted (take n (d .table .held))) (onTable (sentTable n) d)
 
 pub record Obeyed (d : ℕ) (kind : Kind) (res : Result) (r : Reply) (s s′ out out′ : List ℕ) : Type 0 where
-  pub told : Told kind res r out out′
+  pub told : Sends kind res r out out′
   pub says : Says d (res .desk) s s′
 
 -- of a command on the records that takes no data: a reply with data, and one without, in either kind of frame
@@ -42,12 +42,12 @@ pub record Sent (c : TableCommand) (d : ℕ) (kind : Kind) (r : Reply) (s out ou
 pub record Quiet (c : TableCommand) (d : ℕ) (r : Reply) (s s′ : List ℕ) : Type 0 where
   pub obeyed : (kind : Kind) (body out : List ℕ) → Obeyed d kind (ruled (OnTable c) kind (kept d s) body) r s s′ out out
 
--- a deed that leaves a legal desk, with its records and without them
-pub record Empties (deed : Deed) (desk : Desk) : Type 0 where
-  pub full : deskLegal (doneBy deed desk) ≡ true
-  pub bare : deskLegal (withHeld [] (doneBy deed desk)) ≡ true
+-- a doing that leaves a legal desk, with its records and without them
+pub record Empties (what : Doing) (desk : Desk) : Type 0 where
+  pub full : deskLegal (doneBy what desk) ≡ true
+  pub bare : deskLegal (withHeld [] (doneBy what desk)) ≡ true
 
 -- it was done, and no records are left
-pub record Emptied (deed : Deed) (d : ℕ) (r : Reply) (s s′ : List ℕ) : Type 0 where
+pub record Emptied (what : Doing) (d : ℕ) (r : Reply) (s s′ : List ℕ) : Type 0 where
   pub plain : r ≡ record { status = 0; len = 0 }
-  pub says : Says d (withHeld [] (doneBy deed (kept d s))) s s′
+  pub says : Says d (withHeld [] (doneBy what (kept d s))) s s′

@@ -4,7 +4,7 @@ use commands::plain;
 use frame::Kind;
 use frame::Way;
 use octets::least;
-use rows::Deed;
+use rows::Doing;
 use rules::most_sent;
 ghost use mathlib.Core.Path.{_≡_};
 ghost use mathlib.Core.Bool.{true, Bool, cond};
@@ -41,7 +41,7 @@ fn send(s: &mut [u8], d: usize, kind: Kind, wanted: usize, out: &mut [u8]) -> Re
     let way = Way::Reply;
     keeping::tell_records(s, d, n, out, way.data_at(kind));
     let status = status_of(keeping::marks_of(s, d).overflow, n, wanted);
-    keeping::act(s, d, Deed::Due(n as u8));
+    keeping::act(s, d, Doing::Due(n as u8));
     Reply {
         status,
         len: 2 + table::RECORD * n,
@@ -84,17 +84,17 @@ pub fn remove(s: &mut [u8], d: usize) -> Reply
 {
     let m = keeping::marks_of(s, d);
     let start = (m.start as u16 + m.due as u16) % table::SHARE;
-    keeping::act(s, d, Deed::Close(start as u8));
+    keeping::act(s, d, Doing::Close(start as u8));
     keeping::remove_first(s, d, m.due as usize);
     plain(0)
 }
 
-// A deed that empties all but the records, and then these: a desk holds no more than its share.
-fn empty(s: &mut [u8], d: usize, deed: Deed) -> Reply
-    requires { ⌜ (sound (now s) ≡ true) × (d < desks) × Empties deed (kept d (now s)) ⌝ }
-    ensures { λ r. ⌜ Emptied deed d r (now (s .entry)) (now (s .exit)) ⌝ }
+// A doing that empties all but the records, and then these: a desk holds no more than its share.
+fn empty(s: &mut [u8], d: usize, what: Doing) -> Reply
+    requires { ⌜ (sound (now s) ≡ true) × (d < desks) × Empties what (kept d (now s)) ⌝ }
+    ensures { λ r. ⌜ Emptied what d r (now (s .entry)) (now (s .exit)) ⌝ }
 {
-    keeping::act(s, d, deed);
+    keeping::act(s, d, what);
     keeping::remove_first(s, d, table::SHARE as usize);
     plain(0)
 }
@@ -104,7 +104,7 @@ pub fn clear(s: &mut [u8], d: usize) -> Reply
     requires { ⌜ (sound (now s) ≡ true) × (d < desks) ⌝ }
     ensures { λ r. ⌜ Quiet TableCommand.ClearRecords d r (now (s .entry)) (now (s .exit)) ⌝ }
 {
-    empty(s, d, Deed::Clear)
+    empty(s, d, Doing::Clear)
 }
 
 // 0x64: as 0x63; also no records, and timer 0.
@@ -112,5 +112,5 @@ pub fn system_reset(s: &mut [u8], d: usize) -> Reply
     requires { ⌜ (sound (now s) ≡ true) × (d < desks) ⌝ }
     ensures { λ r. ⌜ Quiet TableCommand.SystemReset d r (now (s .entry)) (now (s .exit)) ⌝ }
 {
-    empty(s, d, Deed::Restart)
+    empty(s, d, Doing::Restart)
 }

@@ -14,7 +14,7 @@ use Rattle.octets.specs.Numbers.{octets}
 use Rattle.octets.proofs.Puts.{put-length, put-append}
 use Rattle.octets.proofs.Lent.{put-mid, put-lent}
 use Rattle.octets.proofs.Numbers.{octets-length}
-use Rattle.table.specs.Entries.{recordWidth, width, desks, share, entryCount, entries, recordsOf, without, ownersBelow, sharesKept}
+use Rattle.table.specs.Entries.{recordWidth, width, desks, share, entryCount, entries, recordsOf, without, ownersBelow}
 use Rattle.table.proofs.Room.{room-entry}
 use Rattle.table.proofs.Changes.{remove-fewer, remove-owners, remove-own, remove-others, gather-size, append-owners, append-own, append-others}
 use Rattle.rules.specs.Desk.{Desk}
@@ -28,7 +28,7 @@ use Rattle.store.specs.View.{deskOf, deskIn, inUse}
 use Rattle.store.specs.Sound.{sound}
 use Rattle.store.proofs.Changes.{Sound, sound-facts, area-length}
 use Rattle.store.proofs.LentAreas.{areas-at, areas-header, entries-lent}
-use Rattle.views.proofs.LegalView.{shares-kept}
+use Rattle.views.proofs.LegalView.{few-records}
 use Rattle.rows.specs.Change.{onTable}
 use Rattle.rows.proofs.Meaning.{recorded, held-anew}
 use Rattle.keeping.specs.Kept.{kept, Says, withHeld}
@@ -57,8 +57,8 @@ module _ (s : List ℕ) (e : sound s ≡ true) where
   owners : ownersBelow desks (entries used there) ≡ true
   owners = rw in-use at (facts .owners)
 
-  shares : sharesKept (entries used there) ≡ true
-  shares = rw in-use at (shares-kept s facts)
+  shares : (c : ℕ) → c < desks → length (recordsOf c (entries used there)) ≤ share
+  shares c l = rw in-use at (few-records s facts c l)
 
   module _ (d : ℕ) (h : d < desks) where
     abbrev own : List (List ℕ)

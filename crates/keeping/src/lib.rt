@@ -1,7 +1,7 @@
 // What a sound store keeps for a desk: its row is lent, its records are counted, gathered, added and removed. Each function says what
 // it did by the desk that the store then says.
 use locks::Found;
-use rows::Deed;
+use rows::Doing;
 use table::RECORD;
 use timer::Timer;
 ghost use mathlib.Core.Path.{_≡_};
@@ -15,7 +15,7 @@ ghost use Rattle.rules.specs.Records.{counted, withRecord};
 ghost use Rattle.rules.specs.Legal.{recordLegal, deskLegal};
 ghost use Rattle.store.specs.Sound.{sound};
 ghost use Rattle.rows.specs.Change.{onTable};
-ghost use Rattle.rows.specs.Deed.{doneBy};
+ghost use Rattle.rows.specs.Doing.{doneBy};
 ghost use Rattle.keeping.specs.Kept.{kept, Says, marksOf, withHeld};
 
 // The small numbers of a desk.
@@ -56,13 +56,13 @@ pub fn lock_of(s: &[u8], d: usize, uid: u64) -> Found
     locks::lookup_in(&s[at + store::LOCKS..at + store::ROW], n, uid)
 }
 
-// Does a deed to the row of the desk, which is found and lent here.
-pub fn act(s: &mut [u8], d: usize, deed: Deed)
-    requires { ⌜ (sound (now s) ≡ true) × (d < desks) × (deskLegal (doneBy deed (kept d (now s))) ≡ true) ⌝ }
-    ensures { λ _. ⌜ Says d (doneBy deed (kept d (now (s .entry)))) (now (s .entry)) (now (s .exit)) ⌝ }
+// Does this to the row of the desk, which is found and lent here.
+pub fn act(s: &mut [u8], d: usize, what: Doing)
+    requires { ⌜ (sound (now s) ≡ true) × (d < desks) × (deskLegal (doneBy what (kept d (now s))) ≡ true) ⌝ }
+    ensures { λ _. ⌜ Says d (doneBy what (kept d (now (s .entry)))) (now (s .entry)) (now (s .exit)) ⌝ }
 {
     let at = store::row_at(s, d);
-    rows::act(&mut s[at..at + store::ROW], deed);
+    rows::act(&mut s[at..at + store::ROW], what);
 }
 
 // How many records the desk holds.

@@ -1,7 +1,7 @@
 -- A test of every number below a bound: a loop's turns, and what it tells of each number. Assumes nothing.
 use Prim.Native.Nat.{ℕ, zero, suc, _+_, _<_}
-use mathlib.Core.Path.{_≡_, refl, sym, ap₂, _∙_}
-use mathlib.Core.Bool.{Bool, true, false, _&&_}
+use mathlib.Core.Path.{_≡_, refl, sym, _∙_}
+use mathlib.Core.Bool.{Bool, true, false}
 use native.Mathlib.Decide.{decLt}
 use native.Mathlib.Numerals.{add-one}
 use native.Mathlib.Omega.{arith}
@@ -43,9 +43,3 @@ pub every-all : (m : ℕ) (f : ℕ → Bool) → ((i : ℕ) → i < m → f i �
 unfolding every
 every-all zero f h = refl
 every-all (suc k) f h = rw (h k (omega arith), every-all k f (λ i l. h i (omega arith)))
-
--- two tests that agree on each number
-pub every-same : (m : ℕ) (f g : ℕ → Bool) → ((i : ℕ) → i < m → f i ≡ g i) → every m f ≡ every m g
-unfolding every
-every-same zero f g h = refl
-every-same (suc k) f g h = ap₂ _&&_ (h k (omega arith)) (every-same k f g (λ i l. h i (omega arith)))

@@ -1,4 +1,4 @@
 pub mod Changes
 pub mod Lent
 pub mod Meaning
-pub mod Deeds
+pub mod Doings

@@ -1,3 +1,3 @@
 pub mod Row
 pub mod Change
-pub mod Deed
+pub mod Doing

@@ -19,7 +19,7 @@ ghost use Rattle.locks.specs.Locks.{mostLocks};
 ghost use Rattle.store.specs.Layout.{rowWidth};
 ghost use Rattle.store.specs.Rows.{countAt};
 ghost use Rattle.rows.specs.Change.{Fit, Change};
-ghost use Rattle.rows.specs.Deed.{doneBy};
+ghost use Rattle.rows.specs.Doing.{doneBy};
 ghost use Rattle.rows.specs.Row.{restartedRow, midnightRow, unlockedRow, closedRow, markedRow, dueRow, loginRow, timerRow, memoryAt, writtenRow, savedRow, allSavedRow, lockedRow, sweptRow, steppedRow, tickedRow, defaultRow, clearedRow, systemRow};
 ghost use Rattle.rules.specs.Config.{blockSize, blockCount, memorySize, blockAt, defaults};
 
@@ -209,7 +209,7 @@ pub fn restart_all(row: &mut [u8])
 }
 
 // What is done to a row by sightings, by ticks and by the commands that concern records too.
-pub enum Deed {
+pub enum Doing {
     // The overflow mark is set.
     Mark,
     // So many records are due to be removed.
@@ -226,17 +226,17 @@ pub enum Deed {
 }
 
 // Does it to the row of a desk.
-pub fn act(row: &mut [u8], deed: Deed)
+pub fn act(row: &mut [u8], what: Doing)
     requires { ⌜ Fit (now row) × (getD (now row) countAt 0 ≤ mostLocks) ⌝ }
-    ensures { λ _. ⌜ Change (doneBy deed) (now (row .entry)) (now (row .exit)) ⌝ }
+    ensures { λ _. ⌜ Change (doneBy what) (now (row .entry)) (now (row .exit)) ⌝ }
 {
-    match deed {
-        Deed::Mark => set_mark(row),
-        Deed::Due(n) => set_due(row, n),
-        Deed::Close(start) => close_table(row, start),
-        Deed::Clear => clear(row),
-        Deed::Restart => restart_all(row),
-        Deed::Lock(uid) => add_lock(row, uid),
-        Deed::Tick => tick(row),
+    match what {
+        Doing::Mark => set_mark(row),
+        Doing::Due(n) => set_due(row, n),
+        Doing::Close(start) => close_table(row, start),
+        Doing::Clear => clear(row),
+        Doing::Restart => restart_all(row),
+        Doing::Lock(uid) => add_lock(row, uid),
+        Doing::Tick => tick(row),
     }
 }

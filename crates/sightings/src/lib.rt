@@ -1,6 +1,6 @@
 // A sighting at a desk, and a tick of all desks.
 use locks::Found;
-use rows::Deed;
+use rows::Doing;
 use rules::Seen;
 use table::RECORD;
 use timer::Timer;
@@ -33,12 +33,12 @@ fn unlocked(s: &mut [u8], d: usize, uid: u64, mask: u8) -> Seen
     ensures { λ r. ⌜ Sighted d uid mask r (now (s .entry)) (now (s .exit)) ⌝ }
 {
     if table::SHARE as usize <= keeping::held(s, d) {
-        keeping::act(s, d, Deed::Mark);
+        keeping::act(s, d, Doing::Mark);
         return Seen::Lost;
     }
     let t = keeping::timer_of(s, d);
     keeping::add_record(s, d, record_of(uid, t, mask));
-    keeping::act(s, d, Deed::Lock(uid));
+    keeping::act(s, d, Doing::Lock(uid));
     Seen::Recorded
 }
 
@@ -57,7 +57,7 @@ fn tick_desk(s: &mut [u8], d: usize)
     requires { ⌜ (sound (now s) ≡ true) × (d < desks) ⌝ }
     ensures { λ _. ⌜ Says d (ticked (kept d (now (s .entry)))) (now (s .entry)) (now (s .exit)) ⌝ }
 {
-    keeping::act(s, d, Deed::Tick);
+    keeping::act(s, d, Doing::Tick);
 }
 
 // Every desk is ticked.

@@ -7,10 +7,9 @@ use mathlib.Core.List.{List, [], _∷_, _++_}
 use lib.ListN.{length, take, drop}
 use Rattle.octets.specs.Parts.{put, joined}
 use Rattle.octets.proofs.Rows.{Wide, wide-take, rows-wide, rows-length, length-joined, rows-before, rows-more, rows-joined}
-use Rattle.table.specs.Entries.{width, recordWidth, desks, share, entries, recordsOf, without, ownersBelow, sharesKept}
+use Rattle.table.specs.Entries.{width, recordWidth, desks, entries, recordsOf, without, ownersBelow}
 use Rattle.table.proofs.Desks.{recordsOf-snoc-own, recordsOf-snoc-other, recordsOf-wide, without-records, without-others, without-length, without-wide}
 use Rattle.table.proofs.Owners.{ownersBelow-snoc, ownersBelow-without}
-use Rattle.table.proofs.Shares.{sharesKept-snoc, sharesKept-without}
 
 -- a put behind the entries in use changes none
 pub entries-behind : (n at : ℕ) (xs t : List ℕ) → width * n ≤ at → entries n (put at xs t) ≡ entries n t
@@ -26,10 +25,6 @@ module _ (n d : ℕ) (r t : List ℕ) (wide : length r ≡ recordWidth) (fits : 
 
   pub append-owners : ownersBelow desks (entries n t) ≡ true → d < desks → ownersBelow desks (appended n d r t) ≡ true
   append-owners o h = rw append-entries (ownersBelow-snoc desks (entries n t) (d ∷ r) o h)
-
-  -- where the desk held fewer than its share
-  pub append-shares : sharesKept (entries n t) ≡ true → length (recordsOf d (entries n t)) < share → sharesKept (appended n d r t) ≡ true
-  append-shares o h = rw append-entries (sharesKept-snoc (entries n t) (d ∷ r) o h)
 
   -- the desk has one record more, and every other what it had
   pub append-own : recordsOf d (appended n d r t) ≡ recordsOf d (entries n t) ++ r ∷ []
@@ -58,9 +53,6 @@ module _ (n d k : ℕ) (t : List ℕ) (fits : width * n ≤ length t) where
 
   pub remove-owners : ownersBelow desks (entries n t) ≡ true → ownersBelow desks (removed n d k t) ≡ true
   remove-owners o = rw remove-entries (ownersBelow-without desks d k (entries n t) o)
-
-  pub remove-shares : sharesKept (entries n t) ≡ true → sharesKept (removed n d k t) ≡ true
-  remove-shares h = rw remove-entries (sharesKept-without d k (entries n t) h)
 
   -- the desk loses its first k records, and every other has what it had
   pub remove-own : recordsOf d (removed n d k t) ≡ drop k (recordsOf d (entries n t))

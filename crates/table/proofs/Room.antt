@@ -11,9 +11,8 @@ use lib.Dec.{ltb}
 use borrow.Author.Tests.{ltb-true}
 use Rattle.octets.proofs.Tests.{both}
 use Rattle.octets.proofs.Rows.{rows-length}
-use Rattle.table.specs.Entries.{width, desks, share, entryCount, entries, owner, recordsOf, ownersBelow, sharesKept}
+use Rattle.table.specs.Entries.{width, desks, share, entryCount, entries, owner, recordsOf, ownersBelow}
 use Rattle.table.proofs.Desks.{recordsOf-own, recordsOf-other}
-use Rattle.table.proofs.Shares.{sharesKept-at}
 
 -- the records of the desks below m, counted desk by desk
 total : ℕ → List (List ℕ) → ℕ
@@ -73,10 +72,7 @@ pub room : (m s d : ℕ) (es : List (List ℕ)) → ownersBelow m es ≡ true �
     → d < m → length (recordsOf d es) < s → length es < s * m
 room m s d es o h l f = rw (total-all m es o) at (total-less m s d es h l f)
 
--- the table of this box
-pub room-here : (d : ℕ) (es : List (List ℕ)) → ownersBelow desks es ≡ true → sharesKept es ≡ true → d < desks → length (recordsOf d es) < share → length es < entryCount
-room-here d es o h = room desks share d es o (λ c. sharesKept-at es c h)
-
--- so entry n of the table is free
-pub room-entry : (n d : ℕ) (t : List ℕ) → ownersBelow desks (entries n t) ≡ true → sharesKept (entries n t) ≡ true → d < desks → length (recordsOf d (entries n t)) < share → n < entryCount
-room-entry n d t o h l f = omega (arith, room-here d (entries n t) o h l f, rows-length n width t)
+-- so entry n of this box's table is free
+pub room-entry : (n d : ℕ) (t : List ℕ) → ownersBelow desks (entries n t) ≡ true → ((c : ℕ) → c < desks → length (recordsOf c (entries n t)) ≤ share)
+    → d < desks → length (recordsOf d (entries n t)) < share → n < entryCount
+room-entry n d t o h l f = omega (arith, room desks share d (entries n t) o h l f, rows-length n width t)

@@ -1,17 +1,13 @@
--- What the loop of `census` has counted after i turns, one turn of it, and what the counts tell of the shares. Assumes nothing.
-use mathlib.Core.Path.{_≡_, refl, sym, ap, _∙_}
+-- What the loop of `census` has counted after i turns, and one turn of it. Assumes nothing.
+use mathlib.Core.Path.{_≡_, refl, sym, _∙_}
 use Prim.Native.Nat.{ℕ, _+_, _<_}
 use native.Mathlib.Decide.{ℕ-discrete}
 use native.Mathlib.Omega.{arith}
 use mathlib.Core.Bool.{true, false, true≢false}
 use mathlib.Core.List.{List, [], _∷_, _++_}
-use lib.Dec.{leb}
 use lib.ListN.{length, getD, set, replicate, length-append, getD-replicate}
 use lib.Seq.{getD-set-same, getD-set-other}
-use Rattle.octets.specs.Tests.{every}
-use Rattle.octets.proofs.Every.{every-same}
-use Rattle.table.specs.declared.Tally.{Tally}
-use Rattle.table.specs.Entries.{desks, share, owner, recordsOf, ownersBelow, shareKept, sharesKept, countKept, Counted}
+use Rattle.table.specs.Entries.{desks, owner, recordsOf, ownersBelow, Counted}
 use Rattle.table.proofs.Desks.{recordsOf-snoc-own, recordsOf-snoc-other}
 use Rattle.table.proofs.Owners.{ownersBelow-snoc}
 
@@ -40,8 +36,3 @@ tallied-step {es} {c} e d x h o k l n =
 -- a count that stopped
 pub counted-not : {es : List (List ℕ)} {c : List ℕ} → ownersBelow desks es ≡ false → Counted es (record { ok = false; counts = c })
 counted-not e = record { told = sym e; count = λ o. absurd (true≢false (sym o ∙ e)) }
-
--- the counts tell whether the shares are kept
-pub counted-shares : {es : List (List ℕ)} {r : Tally} → Counted es r → ownersBelow desks es ≡ true → every desks (countKept (r .counts)) ≡ sharesKept es
-unfolding sharesKept
-counted-shares {es} {r} h o = every-same desks (countKept (r .counts)) (shareKept es) (λ d l. ap (λ (n : ℕ). leb n share) (h .count o d l))

@@ -9,8 +9,7 @@ use Rattle.octets.specs.Numbers.{number}
 use Rattle.octets.specs.Areas.{upto}
 use Rattle.locks.specs.Locks.{mostLocks}
 use Rattle.locks.proofs.Stored.{locks-in-length}
-use Rattle.table.specs.Entries.{desks, share, recordsOf, sharesKept}
-use Rattle.table.proofs.Shares.{sharesKept-all}
+use Rattle.table.specs.Entries.{desks, share, recordsOf}
 use Rattle.rules.specs.Box.{deskAt}
 use Rattle.rules.specs.Legal.{boxLegal}
 use Rattle.rules.proofs.Facts.{DeskLegal, box-test}
@@ -38,9 +37,6 @@ legal-row s f d h = rw (desk-is s f d h) at (legal-at s f d)
 pub few-records : (s : List ℕ) → Sound s → (d : ℕ) → d < desks → length (recordsOf d (inUse s)) ≤ share
 unfolding deskOf
 few-records s f d h = legal-row s f d h .table .few
-
-pub shares-kept : (s : List ℕ) → Sound s → sharesKept (inUse s) ≡ true
-shares-kept s f = sharesKept-all (inUse s) (few-records s f)
 
 pub few-locks : (s : List ℕ) → Sound s → (d : ℕ) → d < desks → number (field (rowOf d s) countField) ≤ mostLocks
 unfolding deskOf fields upto

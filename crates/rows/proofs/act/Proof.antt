@@ -1,8 +1,8 @@
--- `rows::act` meets its contract: each deed by its function, and what that means. Assumes nothing.
+-- `rows::act` meets its contract: each doing by its function, and what that means. Assumes nothing.
 use native.Mathlib.Omega.{arith}
 use borrow.Author.Needs.{needs}
 use Rattle.rows.proofs.Meaning.{marked-change, due-change, closed-change, cleared-change, system-change, locked-change, ticked-change}
-use Rattle.rows.proofs.Deeds.{deed-done}
+use Rattle.rows.proofs.Doings.{doing-done}
 use Rattle.rows.proofs.act.Statement.{statement}
 use Rattle.rows.proofs.act.Tie as tie
 
@@ -10,38 +10,38 @@ mark : tie.Need-returns
 mark c =
     let f = c .before .before in
     let z = f .before .before .before .before .before in
-    deed-done _ _ _ _ _ (f .before .before .enum-told .given .1) (f .set-mark .ensures) (marked-change _ (z .pre .0))
+    doing-done _ _ _ _ _ (f .before .before .enum-told .given .1) (f .set-mark .ensures) (marked-change _ (z .pre .0))
 
 due : tie.Need-returns-2
 due c =
     let f = c .before .before in
     let z = f .before .before .before .before .before .before in
-    deed-done _ _ _ _ _ (f .before .before .before .deed .given .1) (f .set-due .ensures) (due-change _ _ (z .pre .0))
+    doing-done _ _ _ _ _ (f .before .before .before .what .given .1) (f .set-due .ensures) (due-change _ _ (z .pre .0))
 
 close : tie.Need-returns-3
 close c =
     let f = c .before .before in
     let z = f .before .before .before .before .before .before in
-    deed-done _ _ _ _ _ (f .before .before .before .deed2 .given .1) (f .close-table .ensures) (closed-change _ _ (z .pre .0))
+    doing-done _ _ _ _ _ (f .before .before .before .what2 .given .1) (f .close-table .ensures) (closed-change _ _ (z .pre .0))
 
 clear : tie.Need-returns-4
 clear c =
     let f = c .before .before in
     let z = f .before .before .before .before .before in
-    deed-done _ _ _ _ _ (f .before .before .enum-told2 .given .1) (f .clear .ensures) (cleared-change _ (z .pre .0))
+    doing-done _ _ _ _ _ (f .before .before .enum-told2 .given .1) (f .clear .ensures) (cleared-change _ (z .pre .0))
 
 restart : tie.Need-returns-5
 restart c =
     let f = c .before .before in
     let z = f .before .before .before .before .before in
-    deed-done _ _ _ _ _ (f .before .before .enum-told3 .given .1) (f .restart-all .ensures) (system-change _ (z .pre .0))
+    doing-done _ _ _ _ _ (f .before .before .enum-told3 .given .1) (f .restart-all .ensures) (system-change _ (z .pre .0))
 
 lock : tie.Need-returns-6
 lock c =
     let f = c .before .before in
     let s = f .before .before .before .before .before in
     let z = s .before in
-    deed-done _ _ _ _ _ (f .before .before .before .deed3 .given .1) (f .add-lock .ensures)
+    doing-done _ _ _ _ _ (f .before .before .before .what3 .given .1) (f .add-lock .ensures)
     (locked-change _ (z .pre .0) (λ i. s .slice-known .given i .fits) (z .pre .1) _ (omega (arith, f .before .before .known-told3 .given)))
 
 tick : tie.Need-returns-7
@@ -49,7 +49,7 @@ tick c =
     let f = c .before .before in
     let s = f .before .before .before .before in
     let z = s .before in
-    deed-done _ _ _ _ _ (f .before .before .enum-told4 .given .1) (f .tick .ensures) (ticked-change _ (z .pre .0) (λ i. s .slice-known .given i .fits) (z .pre .1))
+    doing-done _ _ _ _ _ (f .before .before .enum-told4 .given .1) (f .tick .ensures) (ticked-change _ (z .pre .0) (λ i. s .slice-known .given i .fits) (z .pre .1))
 
 pub act-spec : {M : Type 1} → statement M
 act-spec =

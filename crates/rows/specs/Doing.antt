@@ -5,11 +5,11 @@ use Rattle.locks.specs.Locks.{added}
 use Rattle.rules.specs.Desk.{Desk, withTimer, withLocks, restarted}
 use Rattle.rules.specs.Records.{marked, sentTable}
 use Rattle.rules.specs.Sighting.{ticked}
-use Rattle.rows.specs.declared.Deed.{Deed}
-use Rattle.rows.specs.declared.Deed.the-variants.{Mark, Due, Close, Clear, Restart, Lock, Tick}
+use Rattle.rows.specs.declared.Doing.{Doing}
+use Rattle.rows.specs.declared.Doing.the-variants.{Mark, Due, Close, Clear, Restart, Lock, Tick}
 use Rattle.rows.specs.Change.{onTable, closedTable}
 
-abbrev pub doneBy : Deed → Desk → Desk
+abbrev pub doneBy : Doing → Desk → Desk
 doneBy Mark d = onTable marked d
 doneBy (Due n) d = onTable (sentTable n) d
 doneBy (Close start) d = onTable (closedTable start) d
