@@ -1,6 +1,6 @@
 //! The stores that are measured on.
 
-use depot::numbers::{length, REPLY_SIZE};
+use depot::numbers::{length, DONE, RECORDED, REPLY_SIZE};
 use depot::raw;
 use second::frame::{seal, Kind};
 
@@ -9,7 +9,7 @@ pub const UID: u64 = 0xE007_0000_0164_5E37;
 
 pub fn empty() -> Vec<u8> {
     let mut store = vec![0; depot::STORE_SIZE];
-    assert_eq!(raw::fresh(&mut store), 0);
+    assert_eq!(raw::fresh(&mut store), DONE);
     store
 }
 
@@ -18,7 +18,7 @@ fn filled(step: u64) -> Vec<u8> {
     let mut store = empty();
     for desk in 0..8 {
         for index in 0..64 {
-            assert_eq!(raw::sighting(&mut store, desk, UID - step * (63 - index), 1), 18);
+            assert_eq!(raw::sighting(&mut store, desk, UID - step * (63 - index), 1), RECORDED);
         }
     }
     store
@@ -42,6 +42,6 @@ pub fn read_out() -> Vec<u8> {
     for (control, data) in [(0x22, &[0, 64][..]), (0x32, &[])] {
         assert!(length(raw::frame(&mut store, &seal(Kind::Advanced, 7, control, data), &mut out)).is_some());
     }
-    assert_eq!(raw::sighting(&mut store.clone(), 7, 1 << 40, 1), 18);
+    assert_eq!(raw::sighting(&mut store.clone(), 7, 1 << 40, 1), RECORDED);
     store
 }
