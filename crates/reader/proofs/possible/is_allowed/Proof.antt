@@ -10,47 +10,14 @@ use Rattle.reader.proofs.possible.is_allowed.Tie as tie
 cast-block-may : tie.Need-cast-block-may
 cast-block-may c = record { fits = ltb-true _ _ (holds-as _ _ (c .before .before .before .pre) (c .before .ask2 .given .1)) }
 
-returns : tie.Need-returns
-returns c = cc
-
-returns-2 : tie.Need-returns-2
-returns-2 c = cc
-
-returns-3 : tie.Need-returns-3
-returns-3 c = cc
-
 returns-4 : tie.Need-returns-4
 returns-4 c = c .block-may .ensures ∙ allowed-as _ _ _ _ _ (c .before .before .ask2 .given .1)
-
-returns-5 : tie.Need-returns-5
-returns-5 c = cc
-
-returns-6 : tie.Need-returns-6
-returns-6 c = cc
-
-returns-7 : tie.Need-returns-7
-returns-7 c = cc
 
 returns-8 : tie.Need-returns-8
 returns-8 c = c .is-plain7 .ensures ∙ allowed-as _ _ _ _ _ (c .before .before .ask6 .given .1)
 
-returns-9 : tie.Need-returns-9
-returns-9 c = cc
-
-returns-10 : tie.Need-returns-10
-returns-10 c = cc
-
 returns-11 : tie.Need-returns-11
 returns-11 c = c .read-may .ensures ∙ allowed-as _ _ _ _ _ (c .before .before .ask8 .given .1)
-
-returns-12 : tie.Need-returns-12
-returns-12 c = cc
-
-returns-13 : tie.Need-returns-13
-returns-13 c = cc
-
-returns-14 : tie.Need-returns-14
-returns-14 c = cc
 
 pub is-allowed-spec : {M : Type 1} → statement M
 is-allowed-spec =
@@ -60,5 +27,5 @@ is-allowed-spec =
     (λ c. search needs) (λ c κs. search needs) (λ c. search needs) (λ c κs. search needs) (λ c. search needs)
     (λ c κs. search needs) (λ c. search needs) (λ c κs. search needs) (λ c. search needs) (λ c κs. search needs)
     (λ c. search needs) (λ c κs. search needs) (λ c. search needs) (λ c κs. search needs) (λ c. search needs)
-    (λ c κs. search needs) (λ c. search needs) (λ c κs. search needs) returns returns-2 returns-3 returns-4 returns-5 returns-6
-    returns-7 returns-8 returns-9 returns-10 returns-11 returns-12 returns-13 returns-14)
+    (λ c κs. search needs) (λ c. search needs) (λ c κs. search needs) (λ c. cc) (λ c. cc) (λ c. cc) returns-4 (λ c. cc) (λ c. cc)
+    (λ c. cc) returns-8 (λ c. cc) (λ c. cc) returns-11 (λ c. cc) (λ c. cc) (λ c. cc))
