@@ -7,9 +7,8 @@ use lib.ListN.{length}
 use Rattle.octets.specs.Numbers.{number}
 use Rattle.rules.specs.Desk.{Desk, Table, withTable}
 use Rattle.store.specs.Layout.{rowWidth}
-use Rattle.store.specs.Rows.{field}
+use Rattle.store.specs.Rows.{loginField, markField, field}
 use Rattle.store.specs.View.{deskIn}
-use Rattle.store.specs.Rows.{loginField, markField}
 
 -- a row's length, and login and mark 0 or 1
 pub record Fit (row : List ℕ) : Type 0 where
