@@ -37,14 +37,14 @@ abbrev pub ruled : RowCommand → List ℕ → Desk → Result
 ruled c body d = unless (first (rowTests c body)) d (rowEffect c d body)
 
 -- the status, and the data at their place in the output
-pub record Sends (kind : Kind) (res : Result) (r : Reply) (out out′ : List ℕ) : Type 0 where
+pub record Carries (kind : Kind) (res : Result) (r : Reply) (out out′ : List ℕ) : Type 0 where
   pub status-is : r .status ≡ res .status
   pub len-is : r .len ≡ length (res .sent)
   pub out-is : out′ ≡ put (dataAt Way.Reply kind) (res .sent) out
 
 -- the answer of the rules, whatever records the desk holds
 pub record Obeyed (kind : Kind) (answer : Desk → Result) (r : Reply) (row row′ out out′ : List ℕ) : Type 0 where
-  pub told : (rs : List (List ℕ)) → Sends kind (answer (deskIn row rs)) r out out′
+  pub told : (rs : List (List ℕ)) → Carries kind (answer (deskIn row rs)) r out out′
   pub change : Change (λ d. answer d .desk) row row′
 
 -- a reply without data leaves the output as it was, in either kind of frame

@@ -29,7 +29,7 @@ use Rattle.store.specs.Sound.{sound}
 use Rattle.keeping.specs.Kept.{kept, Says}
 use Rattle.keeping.proofs.Rows.{kept-is, kept-legal, unchanged, lent-row, lent-back}
 use Rattle.commands.specs.declared.Reply.{Reply}
-use Rattle.commands.specs.Obeyed.{Sends}
+use Rattle.commands.specs.Obeyed.{Carries}
 use Rattle.commands.specs.Obeyed as row
 use Rattle.desk.specs.Obeyed.{ruled, Obeyed, Sent, Quiet}
 
@@ -37,7 +37,7 @@ use Rattle.desk.specs.Obeyed.{ruled, Obeyed, Sent, Quiet}
 
 -- data that stand at their place
 pub told-as : (kind : Kind) (res : Result) (status : ℕ) (sent : List ℕ) (desk′ : Desk) (r : Reply) (out out′ : List ℕ) → res ≡ result status sent desk′
-    → r ≡ record { status = status; len = length sent } → out′ ≡ put (dataAt ReplyWay kind) sent out → Sends kind res r out out′
+    → r ≡ record { status = status; len = length sent } → out′ ≡ put (dataAt ReplyWay kind) sent out → Carries kind res r out out′
 unfolding result
 told-as kind res status sent desk′ r out out′ q p o = rw (q, p) (record { status-is = refl; len-is = refl; out-is = o })
 

@@ -19,7 +19,7 @@ use Rattle.rows.specs.Change.{onTable}
 use Rattle.rows.specs.Doing.{doneBy}
 use Rattle.keeping.specs.Kept.{kept, Says, withHeld}
 use Rattle.commands.specs.declared.Reply.{Reply}
-use Rattle.commands.specs.Obeyed.{Sends}
+use Rattle.commands.specs.Obeyed.{Carries}
 
 -- a command with its own rule
 abbrev pub ruled : Command → Kind → Desk → List ℕ → Result
@@ -32,7 +32,7 @@ sends kind wanted d =
     result (cond (d .table .overflow) 0x93 (cond (ltb n wanted) 0x94 0x00)) (counted (take n (d .table .held))) (onTable (sentTable n) d)
 
 pub record Obeyed (d : ℕ) (kind : Kind) (res : Result) (r : Reply) (s s′ out out′ : List ℕ) : Type 0 where
-  pub told : Sends kind res r out out′
+  pub told : Carries kind res r out out′
   pub says : Says d (res .desk) s s′
 
 -- of a command on the records that takes no data: a reply with data, and one without, in either kind of frame
