@@ -1,4 +1,8 @@
 // The commands that concern a desk's row alone: their own tests, and what they do. No store is known here.
+use effects::Reply;
+use effects::blocks;
+use effects::clock;
+use effects::plain;
 use frame::Kind;
 use rules::RowCommand;
 ghost use mathlib.Core.Path.{_≡_};
@@ -9,29 +13,15 @@ ghost use Rattle.frame.specs.Shape.{replyRoom};
 ghost use Rattle.rules.specs.declared.Command.{Command};
 ghost use Rattle.rules.specs.Control.{sizedFor};
 ghost use Rattle.rows.specs.Change.{Fit};
-ghost use Rattle.commands.specs.Obeyed.{Allowed, does, ruled, Obeyed};
+ghost use Rattle.effects.specs.Obeyed.{Allowed, does, RowObeyed};
+ghost use Rattle.commands.specs.Ruled.{rowRuled};
 
-pub mod blocks;
-pub mod clock;
 pub mod tests;
-
-// A reply's status, and how many octets of data stand at their place in the output.
-pub struct Reply {
-    pub status: u8,
-    pub len: usize,
-}
-
-// A reply without data.
-pub fn plain(status: u8) -> Reply
-    ensures { λ r. ⌜ r ≡ record { status = status; len = 0 } ⌝ }
-{
-    Reply { status, len: 0 }
-}
 
 // What a command does with data that it takes.
 fn act(row: &mut [u8], kind: Kind, command: RowCommand, body: &[u8], out: &mut [u8]) -> Reply
     requires { ⌜ Fit (now row) × Allowed command (now body) × (replyRoom ≤ length (now out)) ⌝ }
-    ensures { λ r. ⌜ Obeyed kind (does command (now (body .entry))) r (now (row .entry)) (now (row .exit)) (now (out .entry)) (now (out .exit)) ⌝ }
+    ensures { λ r. ⌜ RowObeyed kind (does command (now (body .entry))) r (now (row .entry)) (now (row .exit)) (now (out .entry)) (now (out .exit)) ⌝ }
 {
     match command {
         RowCommand::Baud => plain(0),
@@ -49,7 +39,7 @@ fn act(row: &mut [u8], kind: Kind, command: RowCommand, body: &[u8], out: &mut [
 // A command whose data have the listed length, at a desk that may do it: its own tests, and then what it does.
 pub fn obey(row: &mut [u8], kind: Kind, command: RowCommand, body: &[u8], out: &mut [u8]) -> Reply
     requires { ⌜ Fit (now row) × (sizedFor (Command.OnRow command) (now body) ≡ true) × (replyRoom ≤ length (now out)) ⌝ }
-    ensures { λ r. ⌜ Obeyed kind (ruled command (now (body .entry))) r (now (row .entry)) (now (row .exit)) (now (out .entry)) (now (out .exit)) ⌝ }
+    ensures { λ r. ⌜ RowObeyed kind (rowRuled command (now (body .entry))) r (now (row .entry)) (now (row .exit)) (now (out .entry)) (now (out .exit)) ⌝ }
 {
     let status = tests::own_tests(command, body);
     if status != 0 {

@@ -15,7 +15,7 @@ ghost use Rattle.rules.specs.declared.RowCommand.{RowCommand};
 ghost use Rattle.rules.specs.Config.{blockSize, lineLegal};
 ghost use Rattle.rules.specs.Control.{sizedFor};
 ghost use Rattle.rules.specs.Command.{rowTests};
-ghost use Rattle.commands.specs.Obeyed.{said};
+ghost use Rattle.commands.specs.Ruled.{said};
 
 // 0x11 where the data are wrong.
 fn given(wrong: bool) -> u8

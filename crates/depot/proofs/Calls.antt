@@ -25,8 +25,8 @@ use Rattle.rules.specs.Box.{Event, frame, sighting, tick, request, served, sigh
 use Rattle.rules.proofs.Replies.{obey-carried}
 use Rattle.store.specs.Sound.{sound}
 use Rattle.keeping.specs.Kept.{kept}
-use Rattle.commands.specs.declared.Reply.{Reply as DeskReply}
-use Rattle.desk.specs.Obeyed.{Obeyed}
+use Rattle.effects.specs.declared.Reply.{Reply as DeskReply}
+use Rattle.records.specs.Obeyed.{Obeyed}
 use Rattle.sightings.specs.Sighted.{Sighted as DeskSighted, Ticked}
 use Rattle.keeping.proofs.Rows.{kept-legal}
 use Rattle.rules.specs.declared.Seen.{Seen}

@@ -53,7 +53,7 @@ fn served(store: &mut [u8], frame: &[u8], f: Frame, out: &mut [u8]) -> Answer
     let start = f.start;
     let end = start + f.len;
     let kind = f.kind;
-    let r = desk::serve::serve(
+    let r = desk::serve(
         store,
         address as usize,
         kind,

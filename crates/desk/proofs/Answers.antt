@@ -1,17 +1,14 @@
--- A command's answer from its status, its data and what the store then says. Assumes nothing.
+-- A command's answer where it is known which it is; one of the row, which was lent and came back. Assumes nothing.
 use Prim.Native.Nat.{ℕ, _+_, _-_, _<_}
-use mathlib.Core.Path.{_≡_, refl, sym, ap, _∙_}
+use mathlib.Core.Path.{_≡_, refl, ap}
 use mathlib.Core.Bool.{true}
-use mathlib.Core.List.{List, [], _++_}
+use mathlib.Core.List.{List, _++_}
 use mathlib.Core.Option.{Option, none, some}
 use lib.ListN.{length, take, drop}
 use borrow.Author.Tests.{eqb-true}
 use Rattle.octets.specs.Tests.{first}
 use Rattle.octets.specs.Each.{All, Octet}
-use Rattle.octets.specs.Parts.{put}
 use Rattle.frame.specs.declared.Kind.{Kind}
-use Rattle.frame.specs.declared.Way.the-variants.{Reply as ReplyWay}
-use Rattle.frame.specs.Shape.{dataAt}
 use Rattle.table.specs.Entries.{desks, recordsOf}
 use Rattle.rules.specs.declared.RowCommand.{RowCommand}
 use Rattle.rules.specs.declared.TableCommand.{TableCommand}
@@ -20,32 +17,18 @@ use Rattle.rules.specs.declared.Command.{Command}
 use Rattle.rules.specs.declared.Command.the-variants.{OnRow, OnTable}
 use Rattle.rules.specs.Desk.{Desk}
 use Rattle.rules.specs.Control.{sizedFor}
-use Rattle.rules.specs.Command.{Result, result, rowTests, rowEffect, unless}
+use Rattle.rules.specs.Command.{result, rowTests, rowEffect, unless}
 use Rattle.rules.proofs.Facts.{DeskLegal}
 use Rattle.rules.proofs.Legality.{row-legal}
 use Rattle.store.specs.Layout.{rowWidth, rowAt}
 use Rattle.store.specs.View.{inUse}
 use Rattle.store.specs.Sound.{sound}
-use Rattle.keeping.specs.Kept.{kept, Says}
-use Rattle.keeping.proofs.Rows.{kept-is, kept-legal, unchanged, lent-row, lent-back}
-use Rattle.commands.specs.declared.Reply.{Reply}
-use Rattle.commands.specs.Obeyed.{Carries}
-use Rattle.commands.specs.Obeyed as row
-use Rattle.desk.specs.Obeyed.{ruled, Obeyed, Sent, Quiet}
-
--- ---- by the result
-
--- data that stand at their place
-pub told-as : (kind : Kind) (res : Result) (status : ℕ) (sent : List ℕ) (desk′ : Desk) (r : Reply) (out out′ : List ℕ) → res ≡ result status sent desk′
-    → r ≡ record { status = status; len = length sent } → out′ ≡ put (dataAt ReplyWay kind) sent out → Carries kind res r out out′
-unfolding result
-told-as kind res status sent desk′ r out out′ q p o = rw (q, p) (record { status-is = refl; len-is = refl; out-is = o })
-
-pub obeyed-as : (d : ℕ) (kind : Kind) (res : Result) (status : ℕ) (sent : List ℕ) (desk′ : Desk) (r : Reply) (s s′ out out′ : List ℕ) → res ≡ result status sent desk′
-    → r ≡ record { status = status; len = length sent } → out′ ≡ put (dataAt ReplyWay kind) sent out → Says d desk′ s s′ → Obeyed d kind res r s s′ out out′
-unfolding result
-obeyed-as d kind res status sent desk′ r s s′ out out′ q p o says =
-    record { told = told-as kind res status sent desk′ r out out′ q p o; says = rw q says }
+use Rattle.keeping.specs.Kept.{kept}
+use Rattle.keeping.proofs.Rows.{kept-is, kept-legal, lent-row, lent-back}
+use Rattle.effects.specs.declared.Reply.{Reply}
+use Rattle.effects.specs.Obeyed.{RowObeyed}
+use Rattle.commands.specs.Ruled.{rowRuled}
+use Rattle.records.specs.Obeyed.{ruled, Obeyed}
 
 -- ---- by the command, where it is known which
 
@@ -65,21 +48,9 @@ unfolding sizedFor
 sized-two a body q e = eqb-true (length body) 2 (sized-of (OnTable a) (OnTable ReadRecords) body (ap OnTable q) e)
 
 module _ (s : List ℕ) (e : sound s ≡ true) (d : ℕ) (h : d < desks) where
-  -- a status without data, and nothing changed
-  pub plain-obeyed : (kind : Kind) (res : Result) (status : ℕ) (r : Reply) (out : List ℕ) → res ≡ result status [] (kept d s) → r ≡ record { status = status; len = 0 }
-      → Obeyed d kind res r s s out out
-  unfolding put
-  plain-obeyed kind res status r out q p = obeyed-as d kind res status [] (kept d s) r s s out out q p refl (unchanged s e d h)
-
-  -- a command on the records that leaves this desk
-  pub quiet : (c : TableCommand) (desk′ : Desk) (r : Reply) (s′ : List ℕ) → ((kind : Kind) (body : List ℕ) → ruled (OnTable c) kind (kept d s) body ≡ result 0 [] desk′)
-      → r ≡ record { status = 0; len = 0 } → Says d desk′ s s′ → Quiet c d r s s′
-  unfolding put
-  quiet c desk′ r s′ q p says = record { obeyed = λ kind body out. obeyed-as d kind _ 0 [] desk′ r s s′ out out (q kind body) p refl says }
-
   -- ---- a command of the row, which was lent and came back
 
-  ruled-legal : (c : RowCommand) (body : List ℕ) → All Octet body → sizedFor (OnRow c) body ≡ true → DeskLegal (row.ruled c body (kept d s) .desk)
+  ruled-legal : (c : RowCommand) (body : List ℕ) → All Octet body → sizedFor (OnRow c) body ≡ true → DeskLegal (rowRuled c body (kept d s) .desk)
   unfolding unless result
   ruled-legal c body o z = go (first (rowTests c body)) refl
     where
@@ -89,10 +60,10 @@ module _ (s : List ℕ) (e : sound s ≡ true) (d : ℕ) (h : d < desks) where
 
   module _ (at : ℕ) (a : at ≡ rowAt d s) where
     pub row-obeyed : (kind : Kind) (c : RowCommand) (body : List ℕ) (r : Reply) (ys out out′ : List ℕ) → All Octet body → sizedFor (OnRow c) body ≡ true
-        → row.Obeyed kind (row.ruled c body) r (take (at + rowWidth - at) (drop at s)) ys out out′
+        → RowObeyed kind (rowRuled c body) r (take (at + rowWidth - at) (drop at s)) ys out out′
         → Obeyed d kind (ruled (OnRow c) kind (kept d s) body) r s (take at s ++ (ys ++ drop (at + rowWidth - at) (drop at s))) out out′
     row-obeyed kind c body r ys out out′ o z q =
         record {
           told = rw (kept-is s e d h, ← lent-row s e d h at a) (q .told (recordsOf d (inUse s)));
-          says = lent-back s e d h at a (λ (x : Desk). row.ruled c body x .desk) ys (q .change) (ruled-legal c body o z);
+          says = lent-back s e d h at a (λ (x : Desk). rowRuled c body x .desk) ys (q .change) (ruled-legal c body o z);
         }

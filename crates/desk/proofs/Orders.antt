@@ -12,7 +12,7 @@ use Rattle.rules.specs.declared.Known.the-variants.{Listed, Unknown}
 use Rattle.rules.specs.Desk.{Desk}
 use Rattle.rules.specs.Control.{termsOf, known, sizedFor}
 use Rattle.rules.specs.Command.{result, tests, unless, obey, answered}
-use Rattle.desk.specs.Obeyed.{ruled}
+use Rattle.records.specs.Obeyed.{ruled}
 
 module _ (t : Terms) (own : t ≡ termsOf (t .command)) (body : List ℕ) where
   size-is : t .size ≡ termsOf (t .command) .size

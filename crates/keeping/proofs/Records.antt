@@ -29,8 +29,8 @@ use Rattle.store.specs.Sound.{sound}
 use Rattle.store.proofs.Changes.{Sound, sound-facts, area-length}
 use Rattle.store.proofs.LentAreas.{areas-at, areas-header, entries-lent}
 use Rattle.views.proofs.LegalView.{few-records}
-use Rattle.rows.specs.Change.{onTable}
-use Rattle.rows.proofs.Meaning.{recorded, held-anew}
+use Rattle.doings.specs.Doing.{onTable}
+use Rattle.doings.proofs.Meaning.{recorded, held-anew}
 use Rattle.keeping.specs.Kept.{kept, Says, withHeld}
 use Rattle.keeping.proofs.Rows.{kept-is, kept-legal, entries-say}
 

@@ -11,7 +11,8 @@ use Rattle.octets.specs.Areas.{upto}
 use Rattle.octets.proofs.Puts.{part-at, part-part}
 use Rattle.octets.proofs.Numbers.{number-at}
 use Rattle.timer.specs.Clock.{timerFrom}
-use Rattle.locks.specs.Locks.{mostLocks, lockWidth, locksIn}
+use Rattle.locks.specs.Locks.{mostLocks}
+use Rattle.lockarea.specs.Area.{lockWidth, locksIn}
 use Rattle.table.specs.Entries.{desks}
 use Rattle.rules.specs.Desk.{Desk}
 use Rattle.store.specs.Layout.{rowWidth, rowAt, rowOf}

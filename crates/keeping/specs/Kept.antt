@@ -8,7 +8,7 @@ use Rattle.rules.specs.Desk.{Desk}
 use Rattle.rules.specs.Box.{deskAt}
 use Rattle.store.specs.View.{view}
 use Rattle.store.specs.Sound.{sound}
-use Rattle.rows.specs.Change.{onTable, heldTable}
+use Rattle.doings.specs.Doing.{onTable, heldTable}
 use Rattle.keeping.specs.declared.Marks.{Marks}
 
 -- what a store keeps for desk d

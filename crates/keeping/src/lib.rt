@@ -1,7 +1,7 @@
 // What a sound store keeps for a desk: its row is lent, its records are counted, gathered, added and removed. Each function says what
 // it did by the desk that the store then says.
+use doings::Doing;
 use locks::Found;
-use rows::Doing;
 use table::RECORD;
 use timer::Timer;
 ghost use mathlib.Core.Path.{_≡_};
@@ -14,8 +14,7 @@ ghost use Rattle.table.specs.Entries.{recordWidth, desks, share};
 ghost use Rattle.rules.specs.Records.{counted, withRecord};
 ghost use Rattle.rules.specs.Legal.{recordLegal, deskLegal};
 ghost use Rattle.store.specs.Sound.{sound};
-ghost use Rattle.rows.specs.Change.{onTable};
-ghost use Rattle.rows.specs.Doing.{doneBy};
+ghost use Rattle.doings.specs.Doing.{onTable, doneBy};
 ghost use Rattle.keeping.specs.Kept.{kept, Says, marksOf, withHeld};
 
 // The small numbers of a desk.
@@ -53,7 +52,7 @@ pub fn lock_of(s: &[u8], d: usize, uid: u64) -> Found
 {
     let at = store::row_at(s, d);
     let n = s[at + store::LOCKED] as usize;
-    locks::lookup_in(&s[at + store::LOCKS..at + store::ROW], n, uid)
+    lockarea::lookup_in(&s[at + store::LOCKS..at + store::ROW], n, uid)
 }
 
 // Does this to the row of the desk, which is found and lent here.
@@ -62,7 +61,7 @@ pub fn act(s: &mut [u8], d: usize, what: Doing)
     ensures { λ _. ⌜ Says d (doneBy what (kept d (now (s .entry)))) (now (s .entry)) (now (s .exit)) ⌝ }
 {
     let at = store::row_at(s, d);
-    rows::act(&mut s[at..at + store::ROW], what);
+    doings::act(&mut s[at..at + store::ROW], what);
 }
 
 // How many records the desk holds.

@@ -1,5 +1,5 @@
 -- Sound lists of locks: what the tests tell, as facts with names, and back; a tick and a new lock keep a list sound. Assumes nothing.
-use Prim.Native.Nat.{ℕ, _*_, _≤_, _<_}
+use Prim.Native.Nat.{ℕ, _^_, _≤_, _<_}
 use mathlib.Core.Path.{_≡_, refl, sym, ap, _∙_}
 use mathlib.Core.List.{List, [], _∷_, _++_}
 use mathlib.Core.Bool.{Bool, true, false, cond, not}
@@ -8,16 +8,13 @@ use lib.Dec.{eqb, ltb, leb, lit<}
 use borrow.Author.Tests.{ltb-true, leb-true, eqb-false, le-leb, ne-eqb, not-true}
 use lib.ListN.{length, drop, length-append, length-drop}
 use Rattle.octets.specs.Tests.{allOf}
-use Rattle.octets.specs.Parts.{put}
-use Rattle.octets.specs.Numbers.{Octets}
 use Rattle.octets.proofs.Tests.{both, and-left, and-right, and-both, or-left, or-right}
 use Rattle.octets.specs.Each.{All}
 use Rattle.octets.proofs.Each.{all-facts, all-test, all-append, all-drop}
 use Rattle.locks.specs.declared.Lock.{Lock}
-use Rattle.locks.specs.Locks.{aged, sweptOf, foundFrom, locked, mostLocks, madeRoom, added, lockLegal, distinct, locksLegal, lockWidth, locksIn, locksOctets}
+use Rattle.locks.specs.Locks.{aged, sweptOf, foundFrom, locked, mostLocks, madeRoom, added, lockLegal, distinct, locksLegal}
 use Rattle.locks.proofs.Lookups.{locked-cons}
 use Rattle.locks.proofs.Sweeps.{swept-length}
-use Rattle.locks.proofs.Stored.{LockFits, locks-in-length, locks-in-fit, locks-put}
 
 pub record LockLegal (valid : ℕ) (l : Lock) : Type 0 where
   pub low : 1 ≤ l .left
@@ -31,6 +28,11 @@ pub record LocksLegal (valid : ℕ) (ls : List Lock) : Type 0 where
   pub few : length ls ≤ mostLocks
   pub each : All (LockLegal valid) ls
   pub distinct : Distinct ls
+
+-- the numbers of a lock fit their octets
+pub record LockFits (l : Lock) : Type 0 where
+  pub uid : l .uid < 2 ^ 64
+  pub left : l .left < 2 ^ 16
 
 -- ---- from a test to its facts, and back
 
@@ -203,17 +205,3 @@ module _ (valid uid : ℕ) where
       added-keeps (λ (ks : List Lock). length ks ≤ mostLocks) uid valid ls h
       (λ v r. simp length-append (omega arith))
       (λ v. simp (length-append, length-drop) (omega arith))
-
--- ---- in the store: what a tick and a new lock wrote is read back
-
-module _ (n : ℕ) (p : List ℕ) (octet : Octets p) where
-  pub ticked-back : lockWidth * n ≤ length p → locksIn (length (sweptOf (locksIn n p))) (put 0 (locksOctets (sweptOf (locksIn n p))) p) ≡ sweptOf (locksIn n p)
-  ticked-back h =
-      locks-put (sweptOf (locksIn n p)) p (swept-fit (locksIn n p) (locks-in-fit n p octet h)) (omega (arith, swept-length (locksIn n p), locks-in-length n p))
-
-  pub added-back : (uid valid : ℕ) → LockFits (record { uid = uid; left = valid }) → n ≤ mostLocks → 640 ≤ length p
-      → locksIn (length (added uid valid (locksIn n p))) (put 0 (locksOctets (added uid valid (locksIn n p))) p) ≡ added uid valid (locksIn n p)
-  added-back uid valid f few h =
-      let l : length (locksIn n p) ≡ n = locks-in-length n p in
-      locks-put (added uid valid (locksIn n p)) p (added-fit valid uid (locksIn n p) f (locks-in-fit n p octet (omega arith)))
-      (omega (arith, added-few valid uid (locksIn n p) (omega arith)))

@@ -1,12 +1,10 @@
--- The locks of one desk: a tick, a search, a new lock, which lists are sound, and their octets in the store. Assumes nothing.
+-- The locks of one desk: a tick, a search, a new lock, which lists are sound. Assumes nothing.
 use Prim.Native.Nat.{ℕ, _+_, _-_}
 use mathlib.Core.Bool.{Bool, true, false, cond, not, _&&_}
-use mathlib.Core.List.{List, [], _∷_, _++_, map}
+use mathlib.Core.List.{List, [], _∷_, _++_}
 use lib.Dec.{ltb, leb, eqb}
 use lib.ListN.{length, take, drop}
 use Rattle.octets.specs.Tests.{allOf}
-use Rattle.octets.specs.Parts.{part, rows, joined}
-use Rattle.octets.specs.Numbers.{number, octets, u16At}
 use Rattle.locks.specs.declared.Lock.{Lock}
 use Rattle.locks.specs.declared.Found.{Found}
 use Rattle.locks.specs.declared.Found.the-variants.{At, Nothing}
@@ -70,24 +68,3 @@ distinct (l ∷ ls) = not (locked (l .uid) ls) && distinct ls
 
 unfoldable pub locksLegal : ℕ → List Lock → Bool
 locksLegal valid ls = leb (length ls) mostLocks && allOf (lockLegal valid) ls && distinct ls
-
--- ---- in the store
-
-abbrev pub lockWidth : ℕ
-lockWidth = 10
-
--- a lock as octets: the UID, then the ticks left
-unfoldable pub lockOctets : Lock → List ℕ
-lockOctets l = octets 8 (l .uid) ++ octets 2 (l .left)
-
--- the lock that such octets hold
-unfoldable pub lockFrom : List ℕ → Lock
-lockFrom r = record { uid = number (part 0 8 r); left = u16At 8 r }
-
--- the first n locks of a store
-unfoldable pub locksIn : ℕ → List ℕ → List Lock
-locksIn n p = map lockFrom (rows n lockWidth p)
-
--- locks one after the other, as octets
-unfoldable pub locksOctets : List Lock → List ℕ
-locksOctets ls = joined (map lockOctets ls)

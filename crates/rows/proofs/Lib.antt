@@ -1,4 +1,2 @@
 pub mod Changes
-pub mod Lent
 pub mod Meaning
-pub mod Doings

@@ -1,11 +1,10 @@
 -- A change of a row and what it means: something done to the desk that the row says. Assumes nothing.
 use Prim.Native.Nat.{ℕ, _≤_}
 use mathlib.Core.Path.{_≡_}
-use mathlib.Core.Bool.{false}
 use mathlib.Core.List.{List}
 use lib.ListN.{length}
 use Rattle.octets.specs.Numbers.{number}
-use Rattle.rules.specs.Desk.{Desk, Table, withTable}
+use Rattle.rules.specs.Desk.{Desk}
 use Rattle.store.specs.Layout.{rowWidth}
 use Rattle.store.specs.Rows.{loginField, markField, field}
 use Rattle.store.specs.View.{deskIn}
@@ -20,16 +19,3 @@ pub record Fit (row : List ℕ) : Type 0 where
 pub record Change (f : Desk → Desk) (row row′ : List ℕ) : Type 0 where
   pub fit : Fit row′
   pub means : (rs : List (List ℕ)) → deskIn row′ rs ≡ f (deskIn row rs)
-
--- ---- what is done to a desk, where the rules have no word for it
-
-abbrev pub onTable : (Table → Table) → Desk → Desk
-onTable f d = withTable (f (d .table)) d
-
--- the mark falls, nothing is due, TAB-START is start
-abbrev pub closedTable : ℕ → Table → Table
-closedTable start t = record { held = t .held; overflow = false; due = 0; start = start }
-
--- other records
-abbrev pub heldTable : List (List ℕ) → Table → Table
-heldTable rs t = record { held = rs; overflow = t .overflow; due = t .due; start = t .start }

@@ -19,9 +19,8 @@ use Rattle.rules.proofs.Facts.{record-test, desk-test}
 use Rattle.rules.proofs.Tables.{record-legal}
 use Rattle.rules.proofs.Legality.{sighted-legal}
 use Rattle.store.specs.Sound.{sound}
-use Rattle.rows.specs.declared.Doing.the-variants.{Mark, Lock}
-use Rattle.rows.specs.Change.{onTable}
-use Rattle.rows.specs.Doing.{doneBy}
+use Rattle.doings.specs.declared.Doing.the-variants.{Mark, Lock}
+use Rattle.doings.specs.Doing.{onTable, doneBy}
 use Rattle.keeping.specs.Kept.{kept, Says}
 use Rattle.keeping.proofs.Rows.{kept-legal, unchanged, says-then, kept-now}
 use Rattle.sightings.specs.Sighted.{Sighted}

@@ -1,6 +1,6 @@
 // A sighting at a desk, and a tick of all desks.
+use doings::Doing;
 use locks::Found;
-use rows::Doing;
 use rules::Seen;
 use table::RECORD;
 use timer::Timer;

@@ -13,8 +13,9 @@ use Rattle.octets.proofs.Tests.{and-left, and-right}
 use Rattle.octets.proofs.Numbers.{number-lt, octets-part}
 use Rattle.timer.specs.Clock.{timerLegal, timerFrom}
 use Rattle.locks.specs.declared.Lock.{Lock}
-use Rattle.locks.specs.Locks.{locksIn, locksLegal}
-use Rattle.locks.proofs.Stored.{locks-in-fit, locks-in-length}
+use Rattle.lockarea.specs.Area.{locksIn}
+use Rattle.locks.specs.Locks.{locksLegal}
+use Rattle.lockarea.proofs.Stored.{locks-in-fit, locks-in-length}
 use Rattle.locks.proofs.Sound.{locks-facts, locks-test}
 use Rattle.table.specs.Entries.{share}
 use Rattle.rules.specs.Legal.{memoryLegal, recordLegal, tableLegal, deskLegal}

@@ -4,7 +4,8 @@ use mathlib.Core.List.{List, [], _∷_}
 use lib.ListN.{length, take, getD}
 use Rattle.octets.specs.Parts.{part}
 use Rattle.octets.specs.Areas.{upto}
-use Rattle.locks.specs.Locks.{lockWidth, mostLocks}
+use Rattle.lockarea.specs.Area.{lockWidth}
+use Rattle.locks.specs.Locks.{mostLocks}
 use Rattle.rules.specs.Config.{memorySize}
 
 -- ---- the fields, in their order

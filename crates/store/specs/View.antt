@@ -6,7 +6,7 @@ use lib.Dec.{eqb}
 use Rattle.octets.specs.Parts.{rows}
 use Rattle.octets.specs.Numbers.{number}
 use Rattle.timer.specs.Clock.{timerFrom}
-use Rattle.locks.specs.Locks.{locksIn}
+use Rattle.lockarea.specs.Area.{locksIn}
 use Rattle.table.specs.Entries.{desks, entries, recordsOf}
 use Rattle.rules.specs.Desk.{Desk}
 use Rattle.rules.specs.Box.{Box}

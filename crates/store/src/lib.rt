@@ -32,7 +32,7 @@ pub const LOCKED: usize = TAB_START + 1;
 pub const LOCKS: usize = LOCKED + 1;
 
 // A row's octets: the locks are its last field.
-pub const ROW: usize = LOCKS + locks::WIDTH * locks::MOST;
+pub const ROW: usize = LOCKS + lockarea::WIDTH * locks::MOST;
 
 // How many entries the table has, and its octets.
 pub const ENTRIES: usize = 512;

@@ -29,7 +29,8 @@ ghost use Rattle.octets.specs.Parts.{part};
 ghost use Rattle.octets.specs.Numbers.{number};
 ghost use Rattle.octets.specs.Areas.{apartb, pairClear};
 ghost use Rattle.timer.specs.Clock.{timerLegal, timerFrom};
-ghost use Rattle.locks.specs.Locks.{locksLegal, locksIn};
+ghost use Rattle.locks.specs.Locks.{locksLegal};
+ghost use Rattle.lockarea.specs.Area.{locksIn};
 ghost use Rattle.table.specs.Entries.{desks, share};
 ghost use Rattle.rules.specs.Config.{memorySize};
 ghost use Rattle.rules.specs.Legal.{memoryLegal, tableLegal};
@@ -165,7 +166,7 @@ fn locks_right(row: &[u8]) -> bool
     if n > MOST_LOCKS {
         return false;
     }
-    locks::legal(&row[LOCKS..ROW], n as usize, octets::get16(row, VALID))
+    lockarea::legal(&row[LOCKS..ROW], n as usize, octets::get16(row, VALID))
 }
 
 // Whether the mark stands only where 64 records are held.

@@ -19,8 +19,8 @@ use Rattle.timer.specs.Clock.{timerOctets}
 use Rattle.timer.proofs.Ranges.{timer-facts}
 use Rattle.timer.proofs.ReadBack.{timer-length, timer-octets, timer-back}
 use Rattle.locks.specs.declared.Lock.{Lock}
-use Rattle.locks.specs.Locks.{lockOctets, locksIn, locksOctets}
-use Rattle.locks.proofs.Stored.{locks-put}
+use Rattle.lockarea.specs.Area.{lockOctets, locksIn, locksOctets}
+use Rattle.lockarea.proofs.Stored.{locks-put}
 use Rattle.rules.specs.Desk.{Desk, freshDesk}
 use Rattle.rules.proofs.Computed.{computed}
 use Rattle.rules.proofs.Facts.{DeskLegal}

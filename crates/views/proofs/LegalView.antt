@@ -8,7 +8,7 @@ use lib.ListN.{length}
 use Rattle.octets.specs.Numbers.{number}
 use Rattle.octets.specs.Areas.{upto}
 use Rattle.locks.specs.Locks.{mostLocks}
-use Rattle.locks.proofs.Stored.{locks-in-length}
+use Rattle.lockarea.proofs.Stored.{locks-in-length}
 use Rattle.table.specs.Entries.{desks, share, recordsOf}
 use Rattle.rules.specs.Box.{deskAt}
 use Rattle.rules.specs.Legal.{boxLegal}

@@ -2,7 +2,8 @@
 use borrow.Author.Needs.{needs}
 use Rattle.rules.specs.Command.{rowEffect}
 use Rattle.rows.proofs.Changes.{change-none}
-use Rattle.commands.proofs.Answers.{allowed-as, done-quiet, quiet-as, obeyed-as}
+use Rattle.commands.proofs.Answers.{allowed-as, quiet-as, obeyed-as}
+use Rattle.effects.proofs.Answers.{done-quiet}
 use Rattle.commands.proofs.act.Statement.{statement}
 use Rattle.commands.proofs.act.Tie as tie
 

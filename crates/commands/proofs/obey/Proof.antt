@@ -1,6 +1,6 @@
 -- `commands::obey` meets its contract. Assumes nothing.
 use borrow.Author.Needs.{needs}
-use Rattle.commands.specs.Obeyed.{said}
+use Rattle.commands.specs.Ruled.{said}
 use borrow.Author.Tests.{eq-eqb, ne-eqb}
 use mathlib.Core.Path.{_≡_, _∙_}
 use mathlib.Core.Option.{none}

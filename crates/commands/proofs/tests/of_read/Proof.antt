@@ -5,7 +5,7 @@ use borrow.Author.Tests.{eq-eqb, ne-eqb}
 use Rattle.octets.specs.Tests.{first}
 use Rattle.octets.proofs.Tests.{passed, failed}
 use Rattle.rules.specs.Command.{rowTests}
-use Rattle.commands.specs.Obeyed.{said}
+use Rattle.commands.specs.Ruled.{said}
 use Rattle.commands.proofs.tests.of_read.Statement.{statement}
 use Rattle.commands.proofs.tests.of_read.Tie as tie
 

@@ -3,7 +3,7 @@ use mathlib.Core.Path.{sym, _∙_}
 use borrow.Author.Needs.{needs}
 use Rattle.octets.specs.Tests.{first}
 use Rattle.rules.specs.Command.{rowTests}
-use Rattle.commands.specs.Obeyed.{said}
+use Rattle.commands.specs.Ruled.{said}
 use Rattle.commands.proofs.Answers.{one-test}
 use Rattle.commands.proofs.tests.of_save.Statement.{statement}
 use Rattle.commands.proofs.tests.of_save.Tie as tie

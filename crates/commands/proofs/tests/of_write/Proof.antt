@@ -3,7 +3,7 @@ use borrow.Author.Needs.{needs}
 use Rattle.octets.specs.Tests.{first}
 use Rattle.octets.proofs.Tests.{passed, failed}
 use Rattle.rules.specs.Command.{rowTests}
-use Rattle.commands.specs.Obeyed.{said}
+use Rattle.commands.specs.Ruled.{said}
 use Rattle.commands.proofs.Answers.{second-test}
 use Rattle.commands.proofs.tests.of_write.Statement.{statement}
 use Rattle.commands.proofs.tests.of_write.Tie as tie

@@ -3,7 +3,7 @@ use native.Mathlib.Omega.{arith}
 use borrow.Author.Needs.{needs}
 use Rattle.octets.specs.Tests.{first}
 use Rattle.rules.specs.Command.{rowTests}
-use Rattle.commands.specs.Obeyed.{said}
+use Rattle.commands.specs.Ruled.{said}
 use Rattle.commands.proofs.Answers.{part-whole, sized-as, tests-as, one-test}
 use Rattle.commands.proofs.tests.own_tests.Statement.{statement}
 use Rattle.commands.proofs.tests.own_tests.Tie as tie

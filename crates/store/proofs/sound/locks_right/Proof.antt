@@ -5,7 +5,7 @@ use native.Mathlib.Omega.{arith}
 use borrow.Author.Tests.{lt-leb}
 use Rattle.octets.specs.Parts.{part}
 use Rattle.locks.specs.Locks.{mostLocks, locksLegal}
-use Rattle.locks.proofs.Stored.{locks-in-length}
+use Rattle.lockarea.proofs.Stored.{locks-in-length}
 use Rattle.store.specs.Rows.{validField, countField, field, countAt}
 use Rattle.store.proofs.FieldOctets.{field-octet, field-pair}
 use borrow.Author.Needs.{needs}

@@ -30,8 +30,13 @@ returns-3 c =
     let m = c .before .before in
     record {
       told = λ rs l p.
-          rw (table-tests _ _ rs l p, passed (m .before .mark-right .ensures) (m .if2 .left), lt-leb _ _ (c .if3 .taken), ← l,
-          le-leb (length rs) share (omega (arith, l, m .before .before .if1 .left)));
+          rw (
+            table-tests _ _ rs l p,
+            passed (m .before .mark-right .ensures) (m .if2 .left),
+            lt-leb _ _ (c .if3 .taken),
+            ← l,
+            le-leb (length rs) share (omega (arith, l, m .before .before .if1 .left)),
+          );
     }
 
 returns-4 : tie.Need-returns-4
@@ -39,8 +44,13 @@ returns-4 c =
     let m = c .before .before .before in
     record {
       told = λ rs l p.
-          rw (table-tests _ _ rs l p, passed (m .before .mark-right .ensures) (m .if2 .left), le-leb _ _ (c .before .if3 .left), ← l,
-          le-leb (length rs) share (omega (arith, l, m .before .before .if1 .left))) refl;
+          rw (
+            table-tests _ _ rs l p,
+            passed (m .before .mark-right .ensures) (m .if2 .left),
+            le-leb _ _ (c .before .if3 .left),
+            ← l,
+            le-leb (length rs) share (omega (arith, l, m .before .before .if1 .left)),
+          ) refl;
     }
 
 pub table-right-spec : {M : Type 1} → statement M

@@ -1,0 +1,15 @@
+-- `rows::tick_timer` meets its contract. Assumes nothing.
+use borrow.Author.Needs.{needs}
+use Rattle.doings.specs.Row.{steppedRow}
+use Rattle.doings.proofs.tick_timer.Statement.{statement}
+use Rattle.doings.proofs.tick_timer.Tie as tie
+
+returns : tie.Need-returns
+unfolding steppedRow
+returns c = cc
+
+pub tick-timer-spec : {M : Type 1} → statement M
+tick-timer-spec =
+    tie.close
+    (tie.spec (λ c κs. search needs) (λ c κs. search needs) (λ c κs. search needs) (λ c. search needs) (λ c κs. search needs)
+    (λ c. search needs) returns)

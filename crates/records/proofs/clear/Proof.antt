@@ -1,0 +1,14 @@
+-- `desk::records::clear` meets its contract. Assumes nothing.
+use Rattle.keeping.proofs.Rows.{kept-legal}
+use Rattle.records.proofs.TableAnswers.{clear-empties, cleared}
+use borrow.Author.Needs.{needs}
+use Rattle.records.proofs.clear.Statement.{statement}
+use Rattle.records.proofs.clear.Tie as tie
+
+pub clear-spec : {M : Type 1} → statement M
+clear-spec =
+    tie.close
+    (tie.spec
+    (λ c κs. let z = c .before .before in (z .pre .0, z .pre .1, clear-empties _ (kept-legal _ (z .pre .0) _ (z .pre .1))))
+    (λ c. search needs)
+    (λ c. let x = c .before .before in let z = x .before .before .before in cleared _ (z .pre .0) _ (z .pre .1) _ _ (x .empty .ensures)))
