@@ -11,8 +11,8 @@ use borrow.Author.Tests.{eqb-true}
 use Rattle.octets.specs.Tests.{first}
 use Rattle.octets.specs.Parts.{part}
 use Rattle.frame.specs.declared.Kind.{Kind}
-use Rattle.rules.specs.declared.RowCommand.{RowCommand}
-use Rattle.rules.specs.declared.Command.the-variants.{OnRow}
+use Rattle.rules.specs.declared.control.RowCommand.{RowCommand}
+use Rattle.rules.specs.declared.control.Command.the-variants.{OnRow}
 use Rattle.rules.specs.Control.{termsOf, sizedFor}
 use Rattle.rules.specs.Command.{unless, rowTests}
 use Rattle.rows.specs.Change.{Fit}

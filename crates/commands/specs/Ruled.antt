@@ -5,7 +5,7 @@ use mathlib.Core.List.{List}
 use mathlib.Core.Option.{Option, none, some}
 use lib.Dec.{eqb}
 use Rattle.octets.specs.Tests.{first}
-use Rattle.rules.specs.declared.RowCommand.{RowCommand}
+use Rattle.rules.specs.declared.control.RowCommand.{RowCommand}
 use Rattle.rules.specs.Desk.{Desk}
 use Rattle.rules.specs.Command.{Result, rowTests, unless}
 use Rattle.effects.specs.Obeyed.{does}

@@ -1,17 +1,17 @@
 // A command's own tests: the status of the first that is given, or 0. They read the data alone.
-use rules::RowCommand;
 use rules::adr::block_of;
 use rules::adr::in_eeprom;
 use rules::adr::names_one;
 use rules::adr::names_some;
+use rules::control::RowCommand;
 ghost use mathlib.Core.Path.{_≡_};
 ghost use mathlib.Core.Bool.{true, cond, not, _&&_};
 ghost use Prim.Native.Nat.{_+_, _≤_};
 ghost use lib.ListN.{length, drop};
 ghost use lib.Dec.{eqb};
 ghost use Rattle.octets.specs.Tests.{first};
-ghost use Rattle.rules.specs.declared.Command.{Command};
-ghost use Rattle.rules.specs.declared.RowCommand.{RowCommand};
+ghost use Rattle.rules.specs.declared.control.Command.{Command};
+ghost use Rattle.rules.specs.declared.control.RowCommand.{RowCommand};
 ghost use Rattle.rules.specs.Config.{blockSize, lineLegal};
 ghost use Rattle.rules.specs.Control.{sizedFor};
 ghost use Rattle.rules.specs.Command.{rowTests};

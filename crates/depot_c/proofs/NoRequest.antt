@@ -10,7 +10,7 @@ use Rattle.octets.specs.Tests.{first}
 use Rattle.frame.specs.declared.Refusal.the-variants.{NoDesk, OutOfRange, NotTheReply}
 use Rattle.frame.specs.declared.Way.the-variants.{Reply}
 use Rattle.frame.specs.Judged.{faults}
-use Rattle.rules.specs.declared.Known.the-variants.{Unknown}
+use Rattle.rules.specs.declared.control.Known.the-variants.{Unknown}
 use Rattle.rules.specs.Control.{commands, knownIn, known}
 use Rattle.rules.specs.Box.{noDesk}
 use Rattle.requests.specs.declared.Request.{Request}

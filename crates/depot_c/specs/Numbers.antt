@@ -6,14 +6,14 @@ use lib.ListN.{length}
 use lib.Dec.{eqb, ltb}
 use Rattle.frame.specs.declared.Kind.{Kind}
 use Rattle.frame.specs.declared.Kind.the-variants.{Standard, Advanced}
-use Rattle.rules.specs.declared.Command.{Command}
-use Rattle.rules.specs.declared.Command.the-variants.{OnRow, OnTable}
-use Rattle.rules.specs.declared.RowCommand.{RowCommand}
-use Rattle.rules.specs.declared.RowCommand.the-variants.{Baud, Reset, ReadBlock, WriteBlock, SaveBlocks, RestoreBlocks, SetTimer, SendTimer, Login}
-use Rattle.rules.specs.declared.TableCommand.{TableCommand}
-use Rattle.rules.specs.declared.TableCommand.the-variants.{SystemReset, ReadRecords, SendTable, RemoveRecords, ClearRecords}
-use Rattle.rules.specs.declared.Known.{Known}
-use Rattle.rules.specs.declared.Known.the-variants.{Listed, Unknown}
+use Rattle.rules.specs.declared.control.Command.{Command}
+use Rattle.rules.specs.declared.control.Command.the-variants.{OnRow, OnTable}
+use Rattle.rules.specs.declared.control.RowCommand.{RowCommand}
+use Rattle.rules.specs.declared.control.RowCommand.the-variants.{Baud, Reset, ReadBlock, WriteBlock, SaveBlocks, RestoreBlocks, SetTimer, SendTimer, Login}
+use Rattle.rules.specs.declared.control.TableCommand.{TableCommand}
+use Rattle.rules.specs.declared.control.TableCommand.the-variants.{SystemReset, ReadRecords, SendTable, RemoveRecords, ClearRecords}
+use Rattle.rules.specs.declared.control.Known.{Known}
+use Rattle.rules.specs.declared.control.Known.the-variants.{Listed, Unknown}
 use Rattle.rules.specs.Config.{blockSize}
 use Rattle.rules.specs.Control.{known}
 use Rattle.requests.specs.declared.Ask.{Ask}

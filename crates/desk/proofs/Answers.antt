@@ -10,16 +10,16 @@ use Rattle.octets.specs.Tests.{first}
 use Rattle.octets.specs.Each.{All, Octet}
 use Rattle.frame.specs.declared.Kind.{Kind}
 use Rattle.table.specs.Entries.{desks, recordsOf}
-use Rattle.rules.specs.declared.RowCommand.{RowCommand}
-use Rattle.rules.specs.declared.TableCommand.{TableCommand}
-use Rattle.rules.specs.declared.TableCommand.the-variants.{ReadRecords}
-use Rattle.rules.specs.declared.Command.{Command}
-use Rattle.rules.specs.declared.Command.the-variants.{OnRow, OnTable}
+use Rattle.rules.specs.declared.control.RowCommand.{RowCommand}
+use Rattle.rules.specs.declared.control.TableCommand.{TableCommand}
+use Rattle.rules.specs.declared.control.TableCommand.the-variants.{ReadRecords}
+use Rattle.rules.specs.declared.control.Command.{Command}
+use Rattle.rules.specs.declared.control.Command.the-variants.{OnRow, OnTable}
 use Rattle.rules.specs.Desk.{Desk}
 use Rattle.rules.specs.Control.{sizedFor}
 use Rattle.rules.specs.Command.{result, rowTests, rowEffect, unless}
 use Rattle.rules.proofs.Facts.{DeskLegal}
-use Rattle.rules.proofs.Legality.{row-legal}
+use Rattle.rules.proofs.Commands.{row-legal}
 use Rattle.store.specs.Layout.{rowWidth, rowAt}
 use Rattle.store.specs.View.{inUse}
 use Rattle.store.specs.Sound.{sound}

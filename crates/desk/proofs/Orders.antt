@@ -7,8 +7,8 @@ use lib.ListN.{length}
 use borrow.Author.Tests.{eq-eqb, ne-eqb}
 use Rattle.octets.specs.Tests.{first}
 use Rattle.frame.specs.declared.Kind.{Kind}
-use Rattle.rules.specs.declared.Terms.{Terms}
-use Rattle.rules.specs.declared.Known.the-variants.{Listed, Unknown}
+use Rattle.rules.specs.declared.control.Terms.{Terms}
+use Rattle.rules.specs.declared.control.Known.the-variants.{Listed, Unknown}
 use Rattle.rules.specs.Desk.{Desk}
 use Rattle.rules.specs.Control.{termsOf, known, sizedFor}
 use Rattle.rules.specs.Command.{result, tests, unless, obey, answered}

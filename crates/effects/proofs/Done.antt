@@ -16,12 +16,12 @@ use Rattle.octets.proofs.Tests.{or-right, none-head}
 use Rattle.frame.specs.declared.Kind.{Kind}
 use Rattle.frame.specs.declared.Way.{Way}
 use Rattle.frame.specs.Shape.{dataAt}
-use Rattle.rules.specs.declared.RowCommand.the-variants.{Reset, ReadBlock, WriteBlock, SaveBlocks, RestoreBlocks, SetTimer, SendTimer, Login}
+use Rattle.rules.specs.declared.control.RowCommand.the-variants.{Reset, ReadBlock, WriteBlock, SaveBlocks, RestoreBlocks, SetTimer, SendTimer, Login}
 use Rattle.rules.specs.Config.{blockSize, blockCount, allBlocks, blockOf, inEeprom, blockAt, namesOne, namesSome, copied, defaults}
 use Rattle.rules.specs.Desk.{memoryOf}
 use Rattle.rules.specs.Command.{adrOf, rowTests, done, rowEffect, passwordIs}
 use Rattle.rules.proofs.Memories.{exists-below, defaults-legal, length-block}
-use Rattle.rules.proofs.Legality.{names-one}
+use Rattle.rules.proofs.Desks.{names-one}
 use Rattle.store.specs.Rows.{eepromAt, timerAt, field, fields, ramField, eepromField}
 use Rattle.store.specs.View.{deskOf, deskIn}
 use Rattle.rows.specs.Change.{Fit}

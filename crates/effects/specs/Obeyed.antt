@@ -9,8 +9,8 @@ use Rattle.octets.specs.Parts.{put}
 use Rattle.frame.specs.declared.Kind.{Kind}
 use Rattle.frame.specs.declared.Way.{Way}
 use Rattle.frame.specs.Shape.{dataAt}
-use Rattle.rules.specs.declared.RowCommand.{RowCommand}
-use Rattle.rules.specs.declared.Command.the-variants.{OnRow}
+use Rattle.rules.specs.declared.control.RowCommand.{RowCommand}
+use Rattle.rules.specs.declared.control.Command.the-variants.{OnRow}
 use Rattle.rules.specs.Control.{termsOf}
 use Rattle.rules.specs.Desk.{Desk}
 use Rattle.rules.specs.Command.{Result, rowTests, rowEffect}

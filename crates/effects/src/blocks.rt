@@ -15,7 +15,7 @@ ghost use mathlib.Core.Bool.{cond};
 ghost use Prim.Native.Nat.{_≤_, _<_};
 ghost use lib.ListN.{length};
 ghost use Rattle.frame.specs.Shape.{replyRoom};
-ghost use Rattle.rules.specs.declared.RowCommand.{RowCommand};
+ghost use Rattle.rules.specs.declared.control.RowCommand.{RowCommand};
 ghost use Rattle.rules.specs.Config.{blockCount, memorySize, blockAt};
 ghost use Rattle.store.specs.Rows.{field, ramField, eepromField};
 ghost use Rattle.rows.specs.Change.{Fit};

@@ -11,7 +11,7 @@ ghost use Prim.Native.Nat.{_≤_};
 ghost use mathlib.Core.List.{[]};
 ghost use lib.ListN.{length};
 ghost use Rattle.frame.specs.Shape.{replyRoom};
-ghost use Rattle.rules.specs.declared.RowCommand.{RowCommand};
+ghost use Rattle.rules.specs.declared.control.RowCommand.{RowCommand};
 ghost use Rattle.rows.specs.Change.{Fit};
 ghost use Rattle.effects.specs.Obeyed.{Allowed, does, RowQuiet, RowObeyed};
 

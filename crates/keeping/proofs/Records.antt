@@ -22,7 +22,7 @@ use Rattle.rules.specs.Records.{counted, withRecord}
 use Rattle.rules.specs.Legal.{recordLegal, deskLegal}
 use Rattle.rules.proofs.Facts.{RecordLegal, DeskLegal, record-facts, desk-facts}
 use Rattle.rules.proofs.Tables.{recorded-legal}
-use Rattle.rules.proofs.Legality.{table-legal}
+use Rattle.rules.proofs.Desks.{table-legal}
 use Rattle.store.specs.Layout.{storeSize, sizeOf, header, startOf, usedOf, area, recounted, rowOf, entriesArea}
 use Rattle.store.specs.View.{deskOf, deskIn, inUse}
 use Rattle.store.specs.Sound.{sound}

@@ -21,7 +21,7 @@ use Rattle.frame.proofs.Room.{by-room, within}
 use Rattle.frame.proofs.Seal.{length-frame}
 use Rattle.rules.specs.declared.Written.the-variants as written
 use Rattle.table.specs.Entries.{desks}
-use Rattle.rules.specs.declared.Terms.{Terms}
+use Rattle.rules.specs.declared.control.Terms.{Terms}
 use Rattle.rules.specs.Config.{blockSize}
 use Rattle.rules.specs.Control.{termsOf}
 use Rattle.requests.specs.declared.Ask.{Ask}

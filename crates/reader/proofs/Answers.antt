@@ -25,7 +25,7 @@ use Rattle.rules.specs.Command.{rowTests, tableTests, Result, result, done, row
 use Rattle.rules.specs.Box.{noDesk}
 use Rattle.rules.proofs.Facts.{TableLegal, RecordLegal, DeskLegal}
 use Rattle.rules.proofs.Memories.{length-block}
-use Rattle.rules.proofs.Legality.{memory-of, names-one}
+use Rattle.rules.proofs.Desks.{memory-of, names-one}
 use Rattle.requests.specs.declared.Ask.{Ask}
 use Rattle.requests.specs.declared.Ask.the-variants.{Baud, Reset, SystemReset, ReadBlock, WriteBlock, SaveBlocks, RestoreBlocks, SetTimer, SendTimer, Login, ReadRecords, SendTable, RemoveRecords, ClearRecords}
 use Rattle.requests.specs.declared.Request.{Request}

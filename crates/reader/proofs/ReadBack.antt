@@ -25,7 +25,7 @@ use Rattle.frame.specs.Sealed.{frameOf}
 use Rattle.frame.proofs.ReadBack.{madeOf, reply-back, reply-parts, reply-data, status-back}
 use Rattle.frame.proofs.Verdict.{sound-first}
 use Rattle.table.specs.Entries.{recordWidth, desks}
-use Rattle.rules.specs.declared.TableCommand.the-variants as table
+use Rattle.rules.specs.declared.control.TableCommand.the-variants as table
 use Rattle.rules.specs.Desk.{Desk}
 use Rattle.rules.specs.Control.{known}
 use Rattle.rules.specs.Records.{goes, counted}

@@ -24,7 +24,8 @@ use Rattle.rules.specs.Records.{mostSent, goes, readStatus, counted, sentTable}
 use Rattle.rules.specs.Command.{rowTests, tableTests, result, rowEffect, tableEffect, unless, passwordIs}
 use Rattle.rules.proofs.Facts.{MemoryLegal, RecordLegal, TableLegal, DeskLegal}
 use Rattle.rules.proofs.Memories.{defaults-legal}
-use Rattle.rules.proofs.Legality.{fresh-desk-legal, memory-legal, login-legal, table-legal}
+use Rattle.rules.proofs.Legality.{fresh-desk-legal}
+use Rattle.rules.proofs.Desks.{memory-legal, login-legal, table-legal}
 use Rattle.requests.specs.declared.Ask.{Ask}
 use Rattle.requests.specs.declared.Ask.the-variants.{Login, ReadRecords}
 use Rattle.requests.specs.declared.Request.{Request}

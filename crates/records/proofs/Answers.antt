@@ -9,8 +9,8 @@ use Rattle.frame.specs.declared.Kind.{Kind}
 use Rattle.frame.specs.declared.Way.the-variants.{Reply as ReplyWay}
 use Rattle.frame.specs.Shape.{dataAt}
 use Rattle.table.specs.Entries.{desks}
-use Rattle.rules.specs.declared.TableCommand.{TableCommand}
-use Rattle.rules.specs.declared.Command.the-variants.{OnTable}
+use Rattle.rules.specs.declared.control.TableCommand.{TableCommand}
+use Rattle.rules.specs.declared.control.Command.the-variants.{OnTable}
 use Rattle.rules.specs.Desk.{Desk}
 use Rattle.rules.specs.Command.{Result, result}
 use Rattle.store.specs.Sound.{sound}

@@ -20,8 +20,8 @@ use Rattle.frame.specs.Shape.{dataAt}
 use Rattle.timer.proofs.Ranges.{midnight-legal}
 use Rattle.timer.specs.Clock.{midnight}
 use Rattle.table.specs.Entries.{recordWidth, desks, share}
-use Rattle.rules.specs.declared.Command.the-variants.{OnTable}
-use Rattle.rules.specs.declared.TableCommand.the-variants.{SystemReset, ReadRecords, SendTable, RemoveRecords, ClearRecords}
+use Rattle.rules.specs.declared.control.Command.the-variants.{OnTable}
+use Rattle.rules.specs.declared.control.TableCommand.the-variants.{SystemReset, ReadRecords, SendTable, RemoveRecords, ClearRecords}
 use Rattle.rules.specs.Desk.{Desk, emptyTable, withTimer, withLocks, withTable, restarted}
 use Rattle.rules.specs.Records.{mostSent, goes, readStatus, counted, sentTable, shortTable}
 use Rattle.rules.specs.Legal.{deskLegal}
@@ -29,7 +29,7 @@ use Rattle.rules.specs.Command.{result, done, unless, tableTests, tableEffect}
 use Rattle.rules.proofs.Counts.{legal-wide, counted-length}
 use Rattle.rules.proofs.Facts.{TableLegal, DeskLegal, desk-test}
 use Rattle.rules.proofs.Tables.{empty-legal, short-legal}
-use Rattle.rules.proofs.Legality.{none-legal, timer-legal, locks-legal, table-legal, restarted-legal}
+use Rattle.rules.proofs.Desks.{none-legal, timer-legal, locks-legal, table-legal, restarted-legal}
 use Rattle.store.specs.Sound.{sound}
 use Rattle.doings.specs.declared.Doing.{Doing}
 use Rattle.doings.specs.declared.Doing.the-variants.{Close, Clear, Restart, Due}

@@ -7,9 +7,9 @@ use lib.Dec.{ltb}
 use lib.ListN.{take}
 use Rattle.octets.specs.Tests.{first}
 use Rattle.frame.specs.declared.Kind.{Kind}
-use Rattle.rules.specs.declared.Command.{Command}
-use Rattle.rules.specs.declared.Command.the-variants.{OnTable}
-use Rattle.rules.specs.declared.TableCommand.{TableCommand}
+use Rattle.rules.specs.declared.control.Command.{Command}
+use Rattle.rules.specs.declared.control.Command.the-variants.{OnTable}
+use Rattle.rules.specs.declared.control.TableCommand.{TableCommand}
 use Rattle.rules.specs.Desk.{Desk}
 use Rattle.rules.specs.Records.{mostSent, counted, sentTable}
 use Rattle.rules.specs.Legal.{deskLegal}

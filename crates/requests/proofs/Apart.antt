@@ -11,14 +11,14 @@ use Rattle.octets.proofs.Numbers.{number-octets}
 use Rattle.octets.proofs.Tests.{and-right}
 use borrow.Author.Tests.{ltb-true}
 use Rattle.frame.proofs.Injective.{frame-injective}
-use Rattle.rules.specs.declared.Command.{Command}
-use Rattle.rules.specs.declared.Command.the-variants.{OnRow, OnTable}
-use Rattle.rules.specs.declared.RowCommand.the-variants as row
-use Rattle.rules.specs.declared.TableCommand.the-variants as table
-use Rattle.rules.specs.declared.Known.{Known}
-use Rattle.rules.specs.declared.Known.the-variants.{Listed, Unknown}
+use Rattle.rules.specs.declared.control.Command.{Command}
+use Rattle.rules.specs.declared.control.Command.the-variants.{OnRow, OnTable}
+use Rattle.rules.specs.declared.control.RowCommand.the-variants as row
+use Rattle.rules.specs.declared.control.TableCommand.the-variants as table
+use Rattle.rules.specs.declared.control.Known.{Known}
+use Rattle.rules.specs.declared.control.Known.the-variants.{Listed, Unknown}
 use Rattle.rules.specs.Control.{known}
-use Rattle.rules.proofs.Controls.{control-finds}
+use Rattle.rules.proofs.Commands.{control-finds}
 use Rattle.requests.specs.declared.Ask.{Ask}
 use Rattle.requests.specs.declared.Ask.the-variants.{Baud, Reset, SystemReset, ReadBlock, WriteBlock, SaveBlocks, RestoreBlocks, SetTimer, SendTimer, Login, ReadRecords, SendTable, RemoveRecords, ClearRecords}
 use Rattle.requests.specs.declared.Request.{Request}

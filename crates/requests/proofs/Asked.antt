@@ -9,10 +9,10 @@ use lib.ListN.{length}
 use borrow.Author.Tests.{eq-eqb}
 use Rattle.octets.specs.Tests.{first}
 use Rattle.octets.proofs.Numbers.{octets-length}
-use Rattle.rules.specs.declared.Known.the-variants.{Listed}
+use Rattle.rules.specs.declared.control.Known.the-variants.{Listed}
 use Rattle.rules.specs.Config.{blockSize}
 use Rattle.rules.specs.Control.{termsOf, sizedFor}
-use Rattle.rules.proofs.Controls.{control-finds}
+use Rattle.rules.proofs.Commands.{control-finds}
 use Rattle.rules.specs.Desk.{Desk}
 use Rattle.rules.specs.Command.{ownTests, Result, result, effect, tests, unless, obey, answered}
 use Rattle.requests.specs.declared.Ask.{Ask}

@@ -5,10 +5,10 @@ use mathlib.Core.List.{List, [], _∷_}
 use lib.Dec.{eqb, ltb}
 use Rattle.octets.specs.Numbers.{octets}
 use Rattle.frame.specs.Sealed.{frameOf}
-use Rattle.rules.specs.declared.RowCommand.the-variants as row
-use Rattle.rules.specs.declared.TableCommand.the-variants as table
-use Rattle.rules.specs.declared.Command.{Command}
-use Rattle.rules.specs.declared.Command.the-variants.{OnRow, OnTable}
+use Rattle.rules.specs.declared.control.RowCommand.the-variants as row
+use Rattle.rules.specs.declared.control.TableCommand.the-variants as table
+use Rattle.rules.specs.declared.control.Command.{Command}
+use Rattle.rules.specs.declared.control.Command.the-variants.{OnRow, OnTable}
 use Rattle.rules.specs.Control.{termsOf}
 use Rattle.rules.specs.Desk.{Desk, freshDesk, withLogin}
 use Rattle.rules.specs.Command.{answered}

@@ -1,46 +1,21 @@
 -- The command table: what a control byte finds, and what it does not. Assumes nothing.
 use Prim.Native.Nat.{ℕ}
-use mathlib.Core.Path.{_≡_, refl, sym, ap, subst, _∙_}
+use mathlib.Core.Path.{_≡_, refl, subst}
 use mathlib.Core.Bool.{Bool, true, false, cond}
 use mathlib.Core.List.{List, [], _∷_}
 use native.Mathlib.Omega.{arith}
 use lib.Dec.{eqb}
 use borrow.Author.Tests.{ne-eqb}
 use Rattle.octets.specs.Each.{All}
-use Rattle.rules.specs.declared.RowCommand.the-variants.{Baud, Reset, ReadBlock, WriteBlock, SaveBlocks, RestoreBlocks, SetTimer, SendTimer, Login}
-use Rattle.rules.specs.declared.TableCommand.the-variants.{SystemReset, ReadRecords, SendTable, RemoveRecords, ClearRecords}
-use Rattle.rules.specs.declared.Command.{Command}
-use Rattle.rules.specs.declared.Command.the-variants.{OnRow, OnTable}
-use Rattle.rules.specs.declared.Terms.{Terms}
-use Rattle.rules.specs.declared.Known.the-variants.{Listed, Unknown}
+use Rattle.rules.specs.declared.control.Command.{Command}
+use Rattle.rules.specs.declared.control.Terms.{Terms}
+use Rattle.rules.specs.declared.control.Known.the-variants.{Listed, Unknown}
 use Rattle.rules.specs.Control.{termsOf, commands, knownIn, known}
 
 -- ---- the terms of a command that is told
 
 pub told : {A : Type 0} (of : A → Command) (c x : A) (r : Terms) → c ≡ x → r ≡ termsOf (of x) → r ≡ termsOf (of c)
 told of c x r e h = rw e h
-
--- ---- a command's control byte finds its terms
-
-pub control-finds : (c : Command) → known (termsOf c .control) ≡ Listed (termsOf c)
-unfolding known knownIn commands
-control-finds (OnRow Baud) = refl
-control-finds (OnRow Reset) = refl
-control-finds (OnRow ReadBlock) = refl
-control-finds (OnRow WriteBlock) = refl
-control-finds (OnRow SaveBlocks) = refl
-control-finds (OnRow RestoreBlocks) = refl
-control-finds (OnRow SetTimer) = refl
-control-finds (OnRow SendTimer) = refl
-control-finds (OnRow Login) = refl
-control-finds (OnTable SystemReset) = refl
-control-finds (OnTable ReadRecords) = refl
-control-finds (OnTable SendTable) = refl
-control-finds (OnTable RemoveRecords) = refl
-control-finds (OnTable ClearRecords) = refl
-
-pub found : (c : Command) (control : ℕ) → control ≡ termsOf c .control → known control ≡ Listed (termsOf c)
-found c control e = ap known e ∙ control-finds c
 
 -- ---- a control byte that is no command's finds none
 

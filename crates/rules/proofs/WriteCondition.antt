@@ -11,8 +11,8 @@ use borrow.Author.Tests.{eqb-true}
 use Rattle.octets.specs.Tests.{first}
 use Rattle.octets.proofs.Tests.{and-left, and-right}
 use Rattle.frame.specs.declared.Kind.{Kind}
-use Rattle.rules.specs.declared.Command.the-variants.{OnRow}
-use Rattle.rules.specs.declared.RowCommand.the-variants.{WriteBlock}
+use Rattle.rules.specs.declared.control.Command.the-variants.{OnRow}
+use Rattle.rules.specs.declared.control.RowCommand.the-variants.{WriteBlock}
 use Rattle.rules.specs.Config.{blockSize, blockCount, blockOf, namesOne, inEeprom, blockAt, written, lineLegal}
 use Rattle.rules.specs.Desk.{Desk, memoryOf}
 use Rattle.rules.specs.Control.{commands, knownIn, known, sizedFor}
@@ -20,7 +20,7 @@ use Rattle.rules.specs.Command.{adrOf, Result, result, done, rowTests, r
 use Rattle.rules.specs.Writes.{writeLegal, writtenDesk}
 use Rattle.rules.proofs.Facts.{DeskLegal}
 use Rattle.rules.proofs.Memories.{block-written, block-kept}
-use Rattle.rules.proofs.Legality.{names-one, memory-of}
+use Rattle.rules.proofs.Desks.{names-one, memory-of}
 
 -- turned down: nothing changes, no data, a status that is not 0x00
 pub record Turned (d : Desk) (r : Result) : Type 0 where

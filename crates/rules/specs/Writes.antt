@@ -6,8 +6,8 @@ use lib.ListN.{drop}
 use lib.Dec.{eqb}
 use Rattle.rules.specs.Config.{blockOf, namesOne, inEeprom, written, lineLegal}
 use Rattle.rules.specs.Desk.{Desk, withMemory, memoryOf}
-use Rattle.rules.specs.declared.Command.the-variants.{OnRow}
-use Rattle.rules.specs.declared.RowCommand.the-variants.{WriteBlock}
+use Rattle.rules.specs.declared.control.Command.the-variants.{OnRow}
+use Rattle.rules.specs.declared.control.RowCommand.the-variants.{WriteBlock}
 use Rattle.rules.specs.Control.{sizedFor}
 use Rattle.rules.specs.Command.{adrOf}
 

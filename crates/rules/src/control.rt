@@ -1,15 +1,50 @@
-// The command table: from a command to its terms, and from a control byte to those of its command.
+// The commands, and their table: from a command to its terms, and from a control byte to those of its command.
 use crate::BLOCK;
-use crate::Command;
-use crate::Known;
-use crate::RowCommand;
-use crate::TableCommand;
-use crate::Terms;
 ghost use mathlib.Core.Path.{_≡_};
 ghost use mathlib.Core.Bool.{false};
-ghost use Rattle.rules.specs.declared.Command.{Command};
-ghost use Rattle.rules.specs.declared.Known.{Known};
+ghost use Rattle.rules.specs.declared.control.Command.{Command};
+ghost use Rattle.rules.specs.declared.control.Known.{Known};
 ghost use Rattle.rules.specs.Control.{terms, termsOf, known};
+
+// The commands that concern what a desk's row keeps, and nothing else.
+pub enum RowCommand {
+    Baud,
+    Reset,
+    ReadBlock,
+    WriteBlock,
+    SaveBlocks,
+    RestoreBlocks,
+    SetTimer,
+    SendTimer,
+    Login,
+}
+
+// Those that concern its records too, which stand in the table that all desks share.
+pub enum TableCommand {
+    SystemReset,
+    ReadRecords,
+    SendTable,
+    RemoveRecords,
+    ClearRecords,
+}
+
+pub enum Command {
+    OnRow(RowCommand),
+    OnTable(TableCommand),
+}
+
+// What the paper's table lists for a command: control byte, data length, whether the desk must be logged in.
+pub struct Terms {
+    pub control: u8,
+    pub size: usize,
+    pub login: bool,
+    pub command: Command,
+}
+
+pub enum Known {
+    Listed(Terms),
+    Unknown,
+}
 
 fn on_row(control: u8, size: usize, login: bool, command: RowCommand) -> Terms
     ensures { λ r. ⌜ r ≡ terms control size login (Command.OnRow command) ⌝ }

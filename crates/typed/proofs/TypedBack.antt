@@ -21,7 +21,7 @@ use Rattle.timer.proofs.Ranges.{timer-facts}
 use Rattle.timer.proofs.ReadBack.{timer-length, timer-back}
 use Rattle.frame.specs.declared.Kind.{Kind}
 use Rattle.table.specs.Entries.{recordWidth, share}
-use Rattle.rules.specs.declared.TableCommand.the-variants.{SendTable}
+use Rattle.rules.specs.declared.control.TableCommand.the-variants.{SendTable}
 use Rattle.rules.specs.Desk.{Desk}
 use Rattle.rules.specs.Records.{recordOf, counted}
 use Rattle.rules.specs.Command.{result, tableEffect}

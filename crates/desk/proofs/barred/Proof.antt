@@ -1,4 +1,4 @@
--- `desk::serve::barred` meets its contract. Assumes nothing.
+-- `desk::barred` meets its contract. Assumes nothing.
 use mathlib.Core.Bool.{not}
 use mathlib.Core.Path.{ap}
 use borrow.Author.Tests.{not-true, not-false}

@@ -1,4 +1,4 @@
--- `desk::serve::dispatch` meets its contract. Assumes nothing.
+-- `desk::dispatch` meets its contract. Assumes nothing.
 use Rattle.desk.proofs.Answers.{obeyed-of, sized-of}
 use borrow.Author.Needs.{needs}
 use Rattle.desk.proofs.dispatch.Statement.{statement}

@@ -1,4 +1,4 @@
--- `desk::serve::obey_terms` meets its contract: one test after the other, then the command. Assumes nothing.
+-- `desk::obey_terms` meets its contract: one test after the other, then the command. Assumes nothing.
 use mathlib.Core.Path.{sym, _∙_}
 use native.Mathlib.Omega.{arith}
 use Rattle.keeping.specs.Kept.{kept}

@@ -1,4 +1,4 @@
--- `desk::serve::on_row` meets its contract: the row is lent, obeys and is back. Assumes nothing.
+-- `desk::on_row` meets its contract: the row is lent, obeys and is back. Assumes nothing.
 use native.Mathlib.Omega.{arith}
 use Rattle.octets.proofs.Each.{octets-each}
 use Rattle.keeping.proofs.Rows.{sound-size, lent-inside, lent-fit}

@@ -1,4 +1,4 @@
--- `desk::serve::on_table` meets its contract: each by its command. Assumes nothing.
+-- `desk::on_table` meets its contract: each by its command. Assumes nothing.
 use Rattle.desk.proofs.Answers.{obeyed-for, sized-two}
 use borrow.Author.Needs.{needs}
 use Rattle.desk.proofs.on_table.Statement.{statement}

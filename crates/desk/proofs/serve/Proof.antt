@@ -1,4 +1,4 @@
--- `desk::serve::serve` meets its contract. Assumes nothing.
+-- `desk::serve` meets its contract. Assumes nothing.
 use mathlib.Core.Path.{sym, _∙_}
 use Rattle.keeping.specs.Kept.{kept}
 use Rattle.rules.proofs.Controls.{found-terms}

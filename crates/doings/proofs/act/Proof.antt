@@ -1,4 +1,4 @@
--- `rows::act` meets its contract: each doing by its function, and what that means. Assumes nothing.
+-- `doings::act` meets its contract: each doing by its function, and what that means. Assumes nothing.
 use native.Mathlib.Omega.{arith}
 use borrow.Author.Needs.{needs}
 use Rattle.doings.proofs.Meaning.{marked-change, due-change, closed-change, cleared-change, system-change, locked-change, ticked-change}

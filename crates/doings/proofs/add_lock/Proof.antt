@@ -1,4 +1,4 @@
--- `rows::add_lock` meets its contract. Assumes nothing.
+-- `doings::add_lock` meets its contract. Assumes nothing.
 use native.Mathlib.Omega.{arith}
 use borrow.Author.Needs.{needs}
 use Rattle.octets.specs.Parts.{part}

@@ -1,4 +1,4 @@
--- `rows::clear` meets its contract. Assumes nothing.
+-- `doings::clear` meets its contract. Assumes nothing.
 use borrow.Author.Needs.{needs}
 use Rattle.doings.specs.Row.{clearedRow}
 use Rattle.doings.proofs.clear.Statement.{statement}

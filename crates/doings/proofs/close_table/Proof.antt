@@ -1,4 +1,4 @@
--- `rows::close_table` meets its contract. Assumes nothing.
+-- `doings::close_table` meets its contract. Assumes nothing.
 use borrow.Author.Needs.{needs}
 use Rattle.octets.specs.Parts.{put}
 use Rattle.doings.specs.Row.{dueRow, closedRow}

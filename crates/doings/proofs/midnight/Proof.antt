@@ -1,4 +1,4 @@
--- `rows::midnight` meets its contract. Assumes nothing.
+-- `doings::midnight` meets its contract. Assumes nothing.
 use borrow.Author.Needs.{needs}
 use Rattle.doings.specs.Row.{midnightRow}
 use Rattle.doings.proofs.midnight.Statement.{statement}

@@ -1,4 +1,4 @@
--- `rows::restart_all` meets its contract. Assumes nothing.
+-- `doings::restart_all` meets its contract. Assumes nothing.
 use borrow.Author.Needs.{needs}
 use Rattle.doings.specs.Row.{systemRow}
 use Rattle.doings.proofs.restart_all.Statement.{statement}

@@ -1,4 +1,4 @@
--- `rows::tick` meets its contract. Assumes nothing.
+-- `doings::tick` meets its contract. Assumes nothing.
 use borrow.Author.Needs.{needs}
 use Rattle.doings.specs.Row.{tickedRow}
 use Rattle.doings.proofs.tick.Statement.{statement}

@@ -1,4 +1,4 @@
--- `rows::tick_locks` meets its contract. Assumes nothing.
+-- `doings::tick_locks` meets its contract. Assumes nothing.
 use native.Mathlib.Omega.{arith}
 use borrow.Author.Needs.{needs}
 use Rattle.octets.specs.Parts.{part}

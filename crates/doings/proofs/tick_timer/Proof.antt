@@ -1,4 +1,4 @@
--- `rows::tick_timer` meets its contract. Assumes nothing.
+-- `doings::tick_timer` meets its contract. Assumes nothing.
 use borrow.Author.Needs.{needs}
 use Rattle.doings.specs.Row.{steppedRow}
 use Rattle.doings.proofs.tick_timer.Statement.{statement}

@@ -1,4 +1,4 @@
--- `locks::add` meets its contract: one law of `Adds` for each way out. Assumes nothing.
+-- `lockarea::add` meets its contract: one law of `Adds` for each way out. Assumes nothing.
 use native.Mathlib.Omega.{arith}
 use mathlib.Core.Path.{_∙_}
 use borrow.Author.Needs.{needs}

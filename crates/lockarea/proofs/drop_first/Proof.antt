@@ -1,4 +1,4 @@
--- `locks::drop_first` meets its contract, by that of `octets::move_within`. Assumes nothing.
+-- `lockarea::drop_first` meets its contract, by that of `octets::move_within`. Assumes nothing.
 use mathlib.Core.Logic.{inl}
 use native.Mathlib.Omega.{arith}
 use borrow.Author.Needs.{needs}

@@ -1,4 +1,4 @@
--- `locks::legal` meets its contract, by those of its three callees. Assumes nothing.
+-- `lockarea::legal` meets its contract, by those of its three callees. Assumes nothing.
 use Prim.Native.Nat.{_≤_}
 use mathlib.Core.Path.{_≡_, sym, _∙_, ap}
 use native.Mathlib.Omega.{arith}

@@ -1,4 +1,4 @@
--- `locks::load` meets its contract. After i turns the first i of the array are the first i locks of the store. Assumes nothing.
+-- `lockarea::load` meets its contract. After i turns the first i of the array are the first i locks of the store. Assumes nothing.
 use mathlib.Core.Path.{_≡_, refl}
 use Prim.Native.Nat.{_≤_, _-_}
 use native.Mathlib.Omega.{arith}

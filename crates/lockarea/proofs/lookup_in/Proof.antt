@@ -1,4 +1,4 @@
--- `locks::lookup_in` meets its contract, by those of its two callees. Assumes nothing.
+-- `lockarea::lookup_in` meets its contract, by those of its two callees. Assumes nothing.
 use Rattle.locks.specs.Locks.{foundFrom}
 use Rattle.lockarea.proofs.Stored.{no-locks}
 use borrow.Author.Needs.{needs}

@@ -1,4 +1,4 @@
--- `locks::read_lock` meets its contract, by those of its two callees. Assumes nothing.
+-- `lockarea::read_lock` meets its contract, by those of its two callees. Assumes nothing.
 use borrow.Author.Needs.{needs}
 use Rattle.lockarea.proofs.Stored.{lock-at}
 use Rattle.lockarea.proofs.read_lock.Statement.{statement}

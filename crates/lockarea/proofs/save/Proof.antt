@@ -1,4 +1,4 @@
--- `locks::save` meets its contract. After i turns the first i locks are put. Assumes nothing.
+-- `lockarea::save` meets its contract. After i turns the first i locks are put. Assumes nothing.
 use mathlib.Core.Path.{_≡_, refl, _∙_}
 use Prim.Native.Nat.{_≤_, _-_}
 use native.Mathlib.Omega.{arith}

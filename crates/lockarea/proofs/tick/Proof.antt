@@ -1,4 +1,4 @@
--- `locks::tick` meets its contract, by those of its three callees. Assumes nothing.
+-- `lockarea::tick` meets its contract, by those of its three callees. Assumes nothing.
 use Prim.Native.Nat.{_≤_}
 use mathlib.Core.Path.{_≡_, refl, ap, _∙_}
 use mathlib.Core.List.{List}

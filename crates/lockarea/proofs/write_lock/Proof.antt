@@ -1,4 +1,4 @@
--- `locks::write_lock` meets its contract, by those of its two callees. Assumes nothing.
+-- `lockarea::write_lock` meets its contract, by those of its two callees. Assumes nothing.
 use borrow.Author.Needs.{needs}
 use Rattle.lockarea.proofs.Stored.{put-lock}
 use Rattle.lockarea.proofs.write_lock.Statement.{statement}

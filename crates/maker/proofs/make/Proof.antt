@@ -9,7 +9,7 @@ use Rattle.frame.specs.declared.Way.the-variants.{Request}
 use Rattle.frame.specs.Sealed.{fitsIn}
 use Rattle.table.specs.Entries.{desks}
 use Rattle.rules.specs.Config.{blockSize}
-use Rattle.rules.specs.declared.Terms.{Terms}
+use Rattle.rules.specs.declared.control.Terms.{Terms}
 use Rattle.maker.proofs.Making.{size-listed, refused-desk, refused-range, refused-room, no-room}
 use borrow.Author.Needs.{needs}
 use Rattle.maker.proofs.make.Statement.{statement}

@@ -1,4 +1,4 @@
--- `desk::records::clear` meets its contract. Assumes nothing.
+-- `records::clear` meets its contract. Assumes nothing.
 use Rattle.keeping.proofs.Rows.{kept-legal}
 use Rattle.records.proofs.TableAnswers.{clear-empties, cleared}
 use borrow.Author.Needs.{needs}

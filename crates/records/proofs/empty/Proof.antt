@@ -1,4 +1,4 @@
--- `desk::records::empty` meets its contract. Assumes nothing.
+-- `records::empty` meets its contract. Assumes nothing.
 use Rattle.records.proofs.TableAnswers.{bare-legal, emptied}
 use borrow.Author.Needs.{needs}
 use Rattle.records.proofs.empty.Statement.{statement}

@@ -1,4 +1,4 @@
--- `desk::records::read` meets its contract: its tests, and then what is wanted goes. Assumes nothing.
+-- `records::read` meets its contract: its tests, and then what is wanted goes. Assumes nothing.
 use mathlib.Core.Path.{_≡_, sym, _∙_}
 use Rattle.octets.specs.Numbers.{u16At}
 use Rattle.keeping.specs.Kept.{kept}

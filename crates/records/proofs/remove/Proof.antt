@@ -1,4 +1,4 @@
--- `desk::records::remove` meets its contract: those due go. Assumes nothing.
+-- `records::remove` meets its contract: those due go. Assumes nothing.
 use native.Mathlib.Omega.{arith}
 use Rattle.keeping.proofs.Rows.{kept-legal}
 use Rattle.records.proofs.TableAnswers.{close-legal, short-bare, removed-done}

@@ -1,4 +1,4 @@
--- `desk::records::send` meets its contract: those that fit go, and are due. Assumes nothing.
+-- `records::send` meets its contract: those that fit go, and are due. Assumes nothing.
 use native.Mathlib.Omega.{arith}
 use mathlib.Core.Path.{refl, _∙_}
 use Rattle.keeping.proofs.Rows.{kept-legal}

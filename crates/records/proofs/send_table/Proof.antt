@@ -1,4 +1,4 @@
--- `desk::records::send_table` meets its contract. Assumes nothing.
+-- `records::send_table` meets its contract. Assumes nothing.
 use mathlib.Core.Path.{refl}
 use Rattle.records.proofs.TableAnswers.{table-sent}
 use borrow.Author.Needs.{needs}

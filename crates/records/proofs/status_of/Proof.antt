@@ -1,4 +1,4 @@
--- `desk::records::status_of` meets its contract. Assumes nothing.
+-- `records::status_of` meets its contract. Assumes nothing.
 use borrow.Author.Tests.{lt-ltb, le-ltb}
 use borrow.Author.Needs.{needs}
 use Rattle.records.proofs.status_of.Statement.{statement}

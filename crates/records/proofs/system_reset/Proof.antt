@@ -1,4 +1,4 @@
--- `desk::records::system_reset` meets its contract. Assumes nothing.
+-- `records::system_reset` meets its contract. Assumes nothing.
 use Rattle.keeping.proofs.Rows.{kept-legal}
 use Rattle.records.proofs.TableAnswers.{restart-empties, reset}
 use borrow.Author.Needs.{needs}

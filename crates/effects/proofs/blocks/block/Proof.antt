@@ -1,4 +1,4 @@
--- `commands::blocks::block` meets its contract: the octets of the one memory or of the other. Assumes nothing.
+-- `effects::blocks::block` meets its contract: the octets of the one memory or of the other. Assumes nothing.
 use mathlib.Core.Path.{_≡_}
 use Prim.Native.Nat.{_+_, _-_, _*_}
 use native.Mathlib.Omega.{arith}

@@ -1,4 +1,4 @@
--- `commands::blocks::named` meets its contract. Assumes nothing.
+-- `effects::blocks::named` meets its contract. Assumes nothing.
 use borrow.Author.Needs.{needs}
 use Rattle.octets.specs.Parts.{part}
 use Rattle.store.specs.Rows.{field}

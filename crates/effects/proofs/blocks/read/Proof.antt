@@ -1,4 +1,4 @@
--- `commands::blocks::read` meets its contract: the named block, where the row has it. Assumes nothing.
+-- `effects::blocks::read` meets its contract: the named block, where the row has it. Assumes nothing.
 use mathlib.Core.Path.{_≡_}
 use native.Mathlib.Omega.{arith}
 use borrow.Author.Needs.{needs}

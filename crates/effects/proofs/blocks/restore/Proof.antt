@@ -1,4 +1,4 @@
--- `commands::blocks::restore` meets its contract. Assumes nothing.
+-- `effects::blocks::restore` meets its contract. Assumes nothing.
 use borrow.Author.Needs.{needs}
 use Rattle.effects.proofs.Done.{restore-names, restore-all-done, restore-one-done}
 use Rattle.effects.proofs.blocks.restore.Statement.{statement}

@@ -1,4 +1,4 @@
--- `commands::blocks::save` meets its contract. Assumes nothing.
+-- `effects::blocks::save` meets its contract. Assumes nothing.
 use borrow.Author.Needs.{needs}
 use Rattle.effects.proofs.Done.{save-names, save-all-done, save-one-done}
 use Rattle.effects.proofs.blocks.save.Statement.{statement}

@@ -1,4 +1,4 @@
--- `commands::blocks::write` meets its contract. Assumes nothing.
+-- `effects::blocks::write` meets its contract. Assumes nothing.
 use borrow.Author.Needs.{needs}
 use Rattle.effects.proofs.Done.{write-names, write-bytes, write-done}
 use Rattle.effects.proofs.blocks.write.Statement.{statement}

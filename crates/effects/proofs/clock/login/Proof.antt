@@ -1,4 +1,4 @@
--- `commands::clock::login` meets its contract: logged in by the password, else logged out. Assumes nothing.
+-- `effects::clock::login` meets its contract: logged in by the password, else logged out. Assumes nothing.
 use borrow.Author.Needs.{needs}
 use Rattle.effects.proofs.Done.{login-done}
 use Rattle.effects.proofs.clock.login.Statement.{statement}

@@ -1,4 +1,4 @@
--- `commands::clock::reset` meets its contract. Assumes nothing.
+-- `effects::clock::reset` meets its contract. Assumes nothing.
 use borrow.Author.Needs.{needs}
 use Rattle.effects.proofs.Done.{reset-done}
 use Rattle.effects.proofs.clock.reset.Statement.{statement}

@@ -1,4 +1,4 @@
--- `commands::clock::send_timer` meets its contract: the four octets of the timer, where the row has them. Assumes nothing.
+-- `effects::clock::send_timer` meets its contract: the four octets of the timer, where the row has them. Assumes nothing.
 use borrow.Author.Needs.{needs}
 use Rattle.effects.proofs.Done.{send-done}
 use Rattle.effects.proofs.clock.send_timer.Statement.{statement}

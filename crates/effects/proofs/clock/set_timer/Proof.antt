@@ -1,4 +1,4 @@
--- `commands::clock::set_timer` meets its contract. Assumes nothing.
+-- `effects::clock::set_timer` meets its contract. Assumes nothing.
 use borrow.Author.Needs.{needs}
 use Rattle.effects.proofs.Done.{set-done}
 use Rattle.effects.proofs.clock.set_timer.Statement.{statement}

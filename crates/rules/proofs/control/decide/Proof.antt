@@ -1,12 +1,12 @@
 -- `rules::control::decide` meets its contract: a command's control byte finds its terms, and what is no command's finds none. Assumes nothing.
 use mathlib.Core.Path.{_≡_, sym, ap, _∙_}
-use native.Mathlib.Omega.{arith}
-use Rattle.rules.specs.declared.RowCommand.the-variants.{Baud, Reset, ReadBlock, WriteBlock, SaveBlocks, RestoreBlocks, SetTimer, SendTimer, Login}
-use Rattle.rules.specs.declared.TableCommand.the-variants.{SystemReset, ReadRecords, SendTable, RemoveRecords, ClearRecords}
-use Rattle.rules.specs.declared.Command.the-variants.{OnRow, OnTable}
-use Rattle.rules.specs.declared.Known.the-variants.{Unknown}
+use Rattle.rules.specs.declared.control.RowCommand.the-variants.{Baud, Reset, ReadBlock, WriteBlock, SaveBlocks, RestoreBlocks, SetTimer, SendTimer, Login}
+use Rattle.rules.specs.declared.control.TableCommand.the-variants.{SystemReset, ReadRecords, SendTable, RemoveRecords, ClearRecords}
+use Rattle.rules.specs.declared.control.Command.the-variants.{OnRow, OnTable}
+use Rattle.rules.specs.declared.control.Known.the-variants.{Unknown}
 use Rattle.rules.specs.Control.{commands, knownIn, known}
-use Rattle.rules.proofs.Controls.{found, unlisted}
+use Rattle.rules.proofs.Commands.{found}
+use Rattle.rules.proofs.Controls.{unlisted}
 use borrow.Author.Needs.{needs}
 use Rattle.rules.proofs.control.decide.Statement.{statement}
 use Rattle.rules.proofs.control.decide.Tie as tie

@@ -1,7 +1,7 @@
 -- `rules::control::row_terms` meets its contract. Assumes nothing.
 use borrow.Author.Needs.{needs}
 use Rattle.rules.proofs.Controls.{told}
-use Rattle.rules.specs.declared.Command.the-variants.{OnRow}
+use Rattle.rules.specs.declared.control.Command.the-variants.{OnRow}
 use Rattle.rules.proofs.control.row_terms.Statement.{statement}
 use Rattle.rules.proofs.control.row_terms.Tie as tie
 

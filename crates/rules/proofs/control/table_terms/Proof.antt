@@ -1,7 +1,7 @@
 -- `rules::control::table_terms` meets its contract. Assumes nothing.
 use borrow.Author.Needs.{needs}
 use Rattle.rules.proofs.Controls.{told}
-use Rattle.rules.specs.declared.Command.the-variants.{OnTable}
+use Rattle.rules.specs.declared.control.Command.the-variants.{OnTable}
 use Rattle.rules.proofs.control.table_terms.Statement.{statement}
 use Rattle.rules.proofs.control.table_terms.Tie as tie
 

@@ -1,6 +1,6 @@
 -- `rules::control::terms_of` meets its contract. Assumes nothing.
 use borrow.Author.Needs.{needs}
-use Rattle.rules.specs.declared.Command.{Command}
+use Rattle.rules.specs.declared.control.Command.{Command}
 use Rattle.rules.proofs.Controls.{told}
 use Rattle.rules.proofs.control.terms_of.Statement.{statement}
 use Rattle.rules.proofs.control.terms_of.Tie as tie
