@@ -1,8 +1,8 @@
--- `depot_c::request::kind_of` meets its contract. Assumes nothing.
+-- `asking::kind_of` meets its contract. Assumes nothing.
 use borrow.Author.Tests.{eq-eqb, ne-eqb}
-use Rattle.depot_c.specs.Numbers.{kindNamed}
-use Rattle.depot_c.proofs.request.kind_of.Statement.{statement}
-use Rattle.depot_c.proofs.request.kind_of.Tie as tie
+use Rattle.asking.specs.Numbers.{kindNamed}
+use Rattle.asking.proofs.kind_of.Statement.{statement}
+use Rattle.asking.proofs.kind_of.Tie as tie
 
 returns : tie.Need-returns
 unfolding kindNamed

@@ -18,7 +18,7 @@ use Rattle.requests.specs.Request.{inRange}
 use Rattle.reader.specs.Possible.{possible}
 use Rattle.maker.specs.Maker.{makerRefusals}
 use Rattle.reader.specs.Reader.{answersTo, readerRefusals}
-use Rattle.depot_c.specs.Numbers.{octetOf, noAsk, whole, requestOf}
+use Rattle.asking.specs.Numbers.{octetOf, noAsk, whole, requestOf}
 
 -- no frame kind or no block beside a write; or a control byte that is none of the fourteen
 pub no-ask : (kind desk control a b c : ℕ) (bytes : List ℕ) → (whole kind (octetOf control) bytes ≡ false) ⊎ (known (octetOf control) ≡ Unknown) → requestOf kind desk control a b c bytes .ask ≡ noAsk

@@ -1,8 +1,8 @@
--- `depot_c::request::request_of` meets its contract. Assumes nothing.
-use Rattle.depot_c.specs.Numbers.{requestOf}
+-- `asking::request_of` meets its contract. Assumes nothing.
+use Rattle.asking.specs.Numbers.{requestOf}
 use borrow.Author.Needs.{needs}
-use Rattle.depot_c.proofs.request.request_of.Statement.{statement}
-use Rattle.depot_c.proofs.request.request_of.Tie as tie
+use Rattle.asking.proofs.request_of.Statement.{statement}
+use Rattle.asking.proofs.request_of.Tie as tie
 
 returns : tie.Need-returns
 unfolding requestOf

@@ -1,8 +1,8 @@
--- `depot_c::request::is_whole` meets its contract. Assumes nothing.
+-- `asking::is_whole` meets its contract. Assumes nothing.
 use borrow.Author.Tests.{lt-ltb, le-ltb, eq-eqb, ne-eqb}
-use Rattle.depot_c.specs.Numbers.{whole}
-use Rattle.depot_c.proofs.request.is_whole.Statement.{statement}
-use Rattle.depot_c.proofs.request.is_whole.Tie as tie
+use Rattle.asking.specs.Numbers.{whole}
+use Rattle.asking.proofs.is_whole.Statement.{statement}
+use Rattle.asking.proofs.is_whole.Tie as tie
 
 returns : tie.Need-returns
 unfolding whole

@@ -1,7 +1,7 @@
--- `depot_c::request::row_ask` meets its contract. Assumes nothing.
+-- `asking::row_ask` meets its contract. Assumes nothing.
 use borrow.Author.Needs.{needs}
-use Rattle.depot_c.proofs.request.row_ask.Statement.{statement}
-use Rattle.depot_c.proofs.request.row_ask.Tie as tie
+use Rattle.asking.proofs.row_ask.Statement.{statement}
+use Rattle.asking.proofs.row_ask.Tie as tie
 
 pub row-ask-spec : {M : Type 1} → statement M
 row-ask-spec =

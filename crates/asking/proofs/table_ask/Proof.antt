@@ -1,7 +1,7 @@
--- `depot_c::request::table_ask` meets its contract. Assumes nothing.
+-- `asking::table_ask` meets its contract. Assumes nothing.
 use borrow.Author.Needs.{needs}
-use Rattle.depot_c.proofs.request.table_ask.Statement.{statement}
-use Rattle.depot_c.proofs.request.table_ask.Tie as tie
+use Rattle.asking.proofs.table_ask.Statement.{statement}
+use Rattle.asking.proofs.table_ask.Tie as tie
 
 pub table-ask-spec : {M : Type 1} → statement M
 table-ask-spec =

@@ -1,9 +1,9 @@
--- `depot_c::request::octet_of` meets its contract. Assumes nothing.
+-- `asking::octet_of` meets its contract. Assumes nothing.
 use borrow.Author.Tests.{lt-ltb, le-ltb}
-use Rattle.depot_c.specs.Numbers.{octetOf}
+use Rattle.asking.specs.Numbers.{octetOf}
 use borrow.Author.Needs.{needs}
-use Rattle.depot_c.proofs.request.octet_of.Statement.{statement}
-use Rattle.depot_c.proofs.request.octet_of.Tie as tie
+use Rattle.asking.proofs.octet_of.Statement.{statement}
+use Rattle.asking.proofs.octet_of.Tie as tie
 
 returns : tie.Need-returns
 unfolding octetOf

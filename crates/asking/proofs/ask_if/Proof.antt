@@ -1,7 +1,7 @@
--- `depot_c::request::ask_if` meets its contract. Assumes nothing.
+-- `asking::ask_if` meets its contract. Assumes nothing.
 use borrow.Author.Needs.{needs}
-use Rattle.depot_c.proofs.request.ask_if.Statement.{statement}
-use Rattle.depot_c.proofs.request.ask_if.Tie as tie
+use Rattle.asking.proofs.ask_if.Statement.{statement}
+use Rattle.asking.proofs.ask_if.Tie as tie
 
 returns : tie.Need-returns
 returns c = rw (c .before .if1 .taken) (c .ask-of .ensures)

@@ -1,7 +1,7 @@
--- `depot_c::request::ask_of` meets its contract. Assumes nothing.
+-- `asking::ask_of` meets its contract. Assumes nothing.
 use borrow.Author.Needs.{needs}
-use Rattle.depot_c.proofs.request.ask_of.Statement.{statement}
-use Rattle.depot_c.proofs.request.ask_of.Tie as tie
+use Rattle.asking.proofs.ask_of.Statement.{statement}
+use Rattle.asking.proofs.ask_of.Tie as tie
 
 pub ask-of-spec : {M : Type 1} → statement M
 ask-of-spec =

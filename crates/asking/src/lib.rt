@@ -11,7 +11,7 @@ use rules::control;
 ghost use mathlib.Core.Path.{_≡_};
 ghost use mathlib.Core.Bool.{cond};
 ghost use Rattle.rules.specs.Control.{known};
-ghost use Rattle.depot_c.specs.Numbers.{octetOf, kindNamed, rowAsk, tableAsk, askWith, noAsk, askOf, whole, requestOf};
+ghost use Rattle.asking.specs.Numbers.{octetOf, kindNamed, rowAsk, tableAsk, askWith, noAsk, askOf, whole, requestOf};
 
 // A number that is to be one octet: 0, which is no mask and no command, for one that is not.
 pub fn octet_of(n: u64) -> u8
