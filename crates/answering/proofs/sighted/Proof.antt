@@ -1,4 +1,4 @@
--- `feeding::sighted` meets its contract: the desk digit is decimal, and nine octets stand behind it. Assumes nothing.
+-- `answering::sighted` meets its contract: the desk digit is decimal, and nine octets stand behind it. Assumes nothing.
 use Prim.Native.Nat.{ℕ, _≤_}
 use mathlib.Core.Path.{_≡_}
 use mathlib.Core.List.{[]}
@@ -8,9 +8,9 @@ use lib.ListN.{length, getD, length-replicate}
 use Rattle.depot.proofs.Short.{sighting-short}
 use Rattle.text.proofs.Printing.{room-for}
 use Rattle.text.proofs.Values.{nine-octets, rest-of}
-use Rattle.feeding.proofs.Whole.{sighting-facts, sighting-answered}
-use Rattle.feeding.proofs.sighted.Statement.{statement}
-use Rattle.feeding.proofs.sighted.Tie as tie
+use Rattle.answering.proofs.NoHex.{sighting-facts, sighting-answered}
+use Rattle.answering.proofs.sighted.Statement.{statement}
+use Rattle.answering.proofs.sighted.Tie as tie
 
 facts : (z : tie.Start) → (length (z .args .s .now) ≡ 20) × (0x30 ≤ getD (z .args .s .now) 1 0) × (getD (z .args .s .now) 1 0 ≤ 0x39)
 facts z = sighting-facts (z .args .s .now) (z .pre .0)

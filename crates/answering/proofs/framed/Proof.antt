@@ -1,4 +1,4 @@
--- `feeding::framed` meets its contract. Assumes nothing.
+-- `answering::framed` meets its contract. Assumes nothing.
 use Prim.Native.Nat.{ℕ, _+_}
 use mathlib.Core.Path.{ap, _∙_}
 use native.Mathlib.Omega.{arith}
@@ -7,10 +7,10 @@ use lib.ListN.{length, length-take, length-replicate}
 use Rattle.octets.proofs.Puts.{put-length}
 use Rattle.frame.specs.Shape.{replyRoom}
 use Rattle.depot.proofs.Short.{frame-short}
-use Rattle.feeding.proofs.Long.{handed-on}
+use Rattle.answering.proofs.Long.{handed-on}
 use Rattle.text.proofs.Printing.{room-for}
-use Rattle.feeding.proofs.framed.Statement.{statement}
-use Rattle.feeding.proofs.framed.Tie as tie
+use Rattle.answering.proofs.framed.Statement.{statement}
+use Rattle.answering.proofs.framed.Tie as tie
 
 slice-aggregate-frame : tie.Need-slice-aggregate-frame
 slice-aggregate-frame c =

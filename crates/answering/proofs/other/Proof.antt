@@ -1,12 +1,12 @@
--- `feeding::other` meets its contract. Assumes nothing.
+-- `answering::other` meets its contract. Assumes nothing.
 use mathlib.Core.List.{[]}
 use mathlib.Core.Path.{refl, sym, _∙_}
 use Rattle.depot.proofs.Short.{tick-short}
 use Rattle.text.proofs.Printing.{room-for}
-use Rattle.feeding.proofs.Whole.{other-tick, other-sighting, other-none}
+use Rattle.answering.proofs.NoHex.{other-tick, other-sighting, other-none}
 use borrow.Author.Needs.{needs}
-use Rattle.feeding.proofs.other.Statement.{statement}
-use Rattle.feeding.proofs.other.Tie as tie
+use Rattle.answering.proofs.other.Statement.{statement}
+use Rattle.answering.proofs.other.Tie as tie
 
 show-requires : tie.Need-show-requires
 show-requires c κs =
