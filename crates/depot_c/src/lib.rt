@@ -1,10 +1,10 @@
 // The calls for C and Rust: numbers and lent octets go in, a number comes back. A refused call writes nothing.
+use asking::octet_of;
+use asking::request_of;
 use codes::answer_code;
 use codes::read_code;
 use codes::written_code;
 use frame::Refusal;
-use request::octet_of;
-use request::request_of;
 use rules::BLOCK;
 use rules::Written;
 use table::RECORD;
@@ -18,10 +18,8 @@ ghost use Rattle.rules.specs.Line.{line};
 ghost use Rattle.lines.specs.Lines.{linesOf};
 ghost use Rattle.reader.specs.Reader.{readAs};
 ghost use Rattle.codes.specs.Codes.{readCode};
-ghost use Rattle.depot_c.specs.Numbers.{octetOf, requestOf};
+ghost use Rattle.asking.specs.Numbers.{octetOf, requestOf};
 ghost use Rattle.depot_c.specs.Coded.{CalledAs, MadeAs, WroteAs, FramedAs, lineTests, linesTests};
-
-mod request;
 
 // ---- the box
 

@@ -1,4 +1,3 @@
 pub mod Feeding
-pub mod Long
 pub mod Whole
 pub mod Rooms

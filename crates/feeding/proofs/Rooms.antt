@@ -18,7 +18,7 @@ use Rattle.depot.specs.declared.Answer.{Answer}
 use Rattle.depot.proofs.Once.{once}
 use Rattle.feeding.specs.declared.Begun.{Begun}
 use Rattle.text.specs.Listing.{longestLine, Line, frame, sighting, tick, notRead, printed, Printed}
-use Rattle.feeding.specs.Answered.{Answered}
+use Rattle.answering.specs.Answered.{Answered}
 use Rattle.feeding.specs.Feeding.{readOff, ReadOff, listRefusals, Lists, Listed}
 
 module _ (at : Begun) (held s reply out : List ℕ) where

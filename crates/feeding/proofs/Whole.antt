@@ -1,29 +1,23 @@
 -- What was read off is answered as the whole line is, however long it is. Assumes nothing.
-use Prim.Native.Nat.{ℕ, _-_, _≤_, _<_}
+use Prim.Native.Nat.{ℕ, _≤_, _<_}
 use mathlib.Core.Path.{_≡_, refl, sym, ap, subst, _∙_}
-use mathlib.Core.Bool.{Bool, true, false, not, _&&_}
-use mathlib.Core.List.{List, []}
+use mathlib.Core.Bool.{Bool, true, false, not}
+use mathlib.Core.List.{List}
 use native.Mathlib.Decide.{decLt}
 use native.Mathlib.Omega.{arith}
-use borrow.Author.Tests.{lt-ltb, le-ltb, ne-eqb, eqb-true}
-use lib.ListN.{length, getD, take, drop}
-use lib.Dec.{eqb}
+use borrow.Author.Tests.{lt-ltb, le-ltb}
+use lib.ListN.{length, take}
 use lib.Seq.{length-take-le, take-all}
 use Rattle.octets.specs.Tests.{allOf}
-use Rattle.octets.specs.Parts.{part}
-use Rattle.octets.specs.Numbers.{number}
-use Rattle.octets.proofs.Tests.{both}
 use Rattle.frame.specs.Shape.{replyRoom}
-use Rattle.rules.specs.Box.{Event}
-use Rattle.depot.specs.declared.Answer.{Answer}
-use Rattle.depot.specs.Called.{Called}
 use Rattle.feeding.specs.declared.Begun.{Begun}
-use Rattle.text.specs.Digits.{decimal, isHex, octetsOf}
-use Rattle.text.specs.Listing.{Line, frame, tick, notRead, odd, isTick, isSighting, sightingOf, otherLine, lineOf, Printed, printed}
-use Rattle.feeding.specs.Answered.{Answered}
+use Rattle.text.specs.Digits.{isHex, octetsOf}
+use Rattle.text.specs.Listing.{Line, frame, notRead, odd, otherLine, lineOf}
+use Rattle.answering.specs.Answered.{Answered}
 use Rattle.feeding.specs.Feeding.{Fed, readOff, ReadOff, heldRoom}
-use Rattle.text.proofs.Values.{bounds, octets-length}
-use Rattle.feeding.proofs.Long.{long-called}
+use Rattle.text.proofs.Values.{octets-length}
+use Rattle.answering.proofs.Long.{long-called}
+use Rattle.answering.proofs.NoHex.{long-other}
 
 -- ---- the line that is read off, as the code finds out
 
@@ -48,23 +42,7 @@ module _ (at : Begun) (held : List ℕ) where
 
 -- ---- the line that a text is
 
-pub long-other : (s : List ℕ) → 20 < length s → otherLine s ≡ notRead
-unfolding otherLine isTick isSighting
-long-other s h = rw (ne-eqb (length s) 1 (λ e. omega arith), ne-eqb (length s) 20 (λ e. omega arith))
-
 module _ (s : List ℕ) where
-  pub other-tick : isTick s ≡ true → otherLine s ≡ tick
-  unfolding otherLine
-  other-tick e = rw e
-
-  pub other-sighting : isTick s ≡ false → isSighting s ≡ true → otherLine s ≡ sightingOf s
-  unfolding otherLine
-  other-sighting e q = rw (e, q)
-
-  pub other-none : isTick s ≡ false → isSighting s ≡ false → otherLine s ≡ notRead
-  unfolding otherLine
-  other-none e q = rw (e, q)
-
   hex-odd : allOf isHex s ≡ true → odd s ≡ true → lineOf s ≡ notRead
   unfolding lineOf
   hex-odd p q = rw (p, q)
@@ -76,24 +54,6 @@ module _ (s : List ℕ) where
   no-hex : allOf isHex s ≡ false → lineOf s ≡ otherLine s
   unfolding lineOf
   no-hex p = rw p
-
--- ---- a sighting
-
-pub sighting-facts : (s : List ℕ) → isSighting s ≡ true → (length s ≡ 20) × (0x30 ≤ getD s 1 0) × (getD s 1 0 ≤ 0x39)
-unfolding isSighting
-sighting-facts s e =
-    let size : Bool = eqb (length s) 20 in
-    let letter : Bool = eqb (getD s 0 0) 0x73 in
-    let digit : Bool = decimal (getD s 1 0) in
-    let three = both (size && letter && digit) (allOf isHex (drop 2 s)) e .0 in
-    let desk = bounds 0x30 0x39 (getD s 1 0) (both (size && letter) digit three .1) in
-    (eqb-true (length s) 20 (both size letter (both (size && letter) digit three .0) .0), desk .0, desk .1)
-
-pub sighting-answered : (s nine : List ℕ) (uid : ℕ) (store reply out : List ℕ) (a : Answer) (n : ℕ) (store′ out′ : List ℕ)
-    → nine ≡ octetsOf (drop 2 s) → uid ≡ number (part 0 8 nine) → Called (Event.sighting (getD s 1 0 - 0x30) uid (getD nine 8 0)) store [] a store′ []
-    → Printed (printed a reply) out n out′ → Answered (sightingOf s) store reply out n store′ reply out′
-unfolding sightingOf
-sighting-answered s nine uid store reply out a n store′ out′ e u q p = record { answers = (a, rw (u, e) at q, refl, p) }
 
 -- ---- both are answered alike
 

@@ -15,7 +15,7 @@ use Rattle.rules.specs.declared.Written.the-variants.{Octets, Refused}
 use Rattle.feeding.specs.declared.Begun.{Begun}
 use Rattle.text.specs.Digits.{isHex, octetsOf}
 use Rattle.text.specs.Listing.{Line, frame, notRead, odd, otherLine, lineOf, longestLine}
-use Rattle.feeding.specs.Answered.{Answered}
+use Rattle.answering.specs.Answered.{Answered}
 
 -- the first octets of a text are held, as many as there is room for; of all of them is known whether they are more, whether their
 -- number is odd, and whether one is no hex digit

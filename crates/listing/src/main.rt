@@ -1,5 +1,5 @@
 // The listing: a fresh box, lines from standard input, and one line printed for each. What a line says and what is printed is
-// proved in `text` and `feeding`; this is the loop around it.
+// proved in `text`, `answering` and `feeding`; this is the loop around it.
 use feeding::Begun;
 use feeding::HELD;
 use frame::Advanced;
