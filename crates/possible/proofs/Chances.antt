@@ -1,6 +1,6 @@
 -- What `statusMay` and `recordsMay` are, from the tests that led there. Assumes nothing.
 use Prim.Native.Nat.{ℕ, _+_, _*_, _≤_, _<_, min}
-use mathlib.Core.Path.{_≡_, refl, sym, ap}
+use mathlib.Core.Path.{_≡_, refl, sym}
 use mathlib.Core.Bool.{Bool, true, false, _||_, _&&_}
 use lib.Dec.{eqb, ltb}
 use native.Mathlib.Omega.{arith}
@@ -66,8 +66,8 @@ module _ (kind : Kind) (k status len n : ℕ) (is : n ≡ recordsFor len) where
 
 -- ---- where what is asked is known
 
-pub allowed-as : (kind : Kind) (a b : Ask) (status len : ℕ) → a ≡ b → allowed kind b status len ≡ allowed kind a status len
-allowed-as kind a b status len e = ap (λ (x : Ask). allowed kind x status len) (sym e)
+pub allowed-as : (kind : Kind) (a b : Ask) (status len : ℕ) (r : Bool) → a ≡ b → r ≡ allowed kind b status len → r ≡ allowed kind a status len
+allowed-as kind a b status len r e t = rw e t
 
 -- ---- 0x13, 0x11, or what is allowed
 
