@@ -15,8 +15,8 @@ use Rattle.rules.specs.Control.{commands, knownIn, known}
 use Rattle.rules.specs.Box.{noDesk}
 use Rattle.requests.specs.declared.Request.{Request}
 use Rattle.requests.specs.Request.{inRange}
-use Rattle.reader.specs.Possible.{possible}
 use Rattle.maker.specs.Maker.{makerRefusals}
+use Rattle.possible.specs.Possible.{possible}
 use Rattle.reader.specs.Reader.{answersTo, readerRefusals}
 use Rattle.asking.specs.Numbers.{octetOf, noAsk, whole, requestOf}
 

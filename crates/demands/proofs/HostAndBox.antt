@@ -34,10 +34,10 @@ use Rattle.depot.proofs.Short.{answer-brief}
 use Rattle.requests.specs.declared.Request.{Request}
 use Rattle.requests.specs.Request.{controlOf, dataFor, fieldsHold, denied, inRange, requestFrame}
 use Rattle.maker.specs.Maker.{makerRefusals, Requested}
-use Rattle.reader.specs.Possible.{possible}
 use Rattle.requests.proofs.BoxReads.{box-steps}
-use Rattle.reader.proofs.Answers.{answer-possible}
-use Rattle.reader.proofs.Given.{Given, possible-given}
+use Rattle.possible.specs.Possible.{possible}
+use Rattle.possible.proofs.Answers.{answer-possible}
+use Rattle.possible.proofs.Given.{Given, possible-given}
 use Rattle.reader.proofs.ReadBack.{reply-read}
 use Rattle.demands.specs.Exchange.{Carriable, ruledBy, replyTo, taken, ReadBack, Gives}
 

@@ -20,10 +20,10 @@ use Rattle.frame.specs.Judged.{faults, partsOf, dataOf, judged}
 use Rattle.frame.proofs.Verdict.{sound-parts, sound-first, refused-first}
 use Rattle.table.specs.Entries.{recordWidth}
 use Rattle.requests.specs.declared.Request.{Request}
+use Rattle.requests.specs.Request.{controlOf}
+use Rattle.possible.specs.Possible.{possible}
 use Rattle.reader.specs.declared.Told.{Told}
 use Rattle.reader.specs.declared.Reading.the-variants.{Sound, Refused}
-use Rattle.requests.specs.Request.{controlOf}
-use Rattle.reader.specs.Possible.{possible}
 use Rattle.reader.specs.Reader.{sameKind, toldOf, countRight, answersTo, readerRefusals, readAs}
 
 -- ---- the verdict

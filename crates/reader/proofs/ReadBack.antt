@@ -32,16 +32,16 @@ use Rattle.rules.specs.Records.{goes, counted}
 use Rattle.rules.specs.Command.{Result, result, tableEffect, unless, answered}
 use Rattle.rules.proofs.Facts.{RecordLegal, DeskLegal}
 use Rattle.rules.proofs.Replies.{obey-carried}
+use Rattle.rules.proofs.Counts.{legal-wide, counted-length, count-back}
 use Rattle.requests.specs.declared.Ask.{Ask}
 use Rattle.requests.specs.declared.Ask.the-variants.{Baud, Reset, SystemReset, ReadBlock, WriteBlock, SaveBlocks, RestoreBlocks, SetTimer, SendTimer, Login, ReadRecords, SendTable, RemoveRecords, ClearRecords}
 use Rattle.requests.specs.declared.Request.{Request}
-use Rattle.reader.specs.declared.Reading.the-variants.{Sound}
 use Rattle.requests.specs.Request.{controlOf, dataFor, fieldsHold}
-use Rattle.reader.specs.Possible.{possible}
-use Rattle.reader.specs.Reader.{sameKind, toldOf, countRight, answersTo, readerRefusals, readAs}
 use Rattle.requests.proofs.Asked.{answerTo, asked-open}
-use Rattle.reader.proofs.Answers.{answer-possible}
-use Rattle.rules.proofs.Counts.{legal-wide, counted-length, count-back}
+use Rattle.possible.specs.Possible.{possible}
+use Rattle.possible.proofs.Answers.{answer-possible}
+use Rattle.reader.specs.declared.Reading.the-variants.{Sound}
+use Rattle.reader.specs.Reader.{sameKind, toldOf, countRight, answersTo, readerRefusals, readAs}
 
 -- ---- the record count
 

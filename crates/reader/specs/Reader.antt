@@ -16,11 +16,11 @@ use Rattle.frame.specs.declared.Refusal.the-variants.{NotTheReply}
 use Rattle.frame.specs.Judged.{faults, partsOf, dataOf}
 use Rattle.table.specs.Entries.{recordWidth}
 use Rattle.requests.specs.declared.Request.{Request}
+use Rattle.requests.specs.Request.{controlOf}
+use Rattle.possible.specs.Possible.{possible}
 use Rattle.reader.specs.declared.Told.{Told}
 use Rattle.reader.specs.declared.Reading.{Reading}
 use Rattle.reader.specs.declared.Reading.the-variants.{Sound, Refused}
-use Rattle.requests.specs.Request.{controlOf}
-use Rattle.reader.specs.Possible.{possible}
 
 abbrev pub sameKind : Kind → Kind → Bool
 sameKind Standard Standard = true

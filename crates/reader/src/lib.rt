@@ -1,10 +1,10 @@
 // The reader: the octets of a reply, judged by the request that they should answer.
-use crate::possible::is_possible;
 use frame::Frame;
 use frame::Judged;
 use frame::Kind;
 use frame::Refusal;
 use frame::Way;
+use possible::is_possible;
 use requests::Request;
 use requests::control_of;
 ghost use mathlib.Core.Path.{_≡_};
@@ -12,8 +12,6 @@ ghost use Rattle.frame.specs.declared.Way.{Way};
 ghost use Rattle.frame.specs.declared.Judged.{Judged};
 ghost use Rattle.frame.specs.Judged.{judged};
 ghost use Rattle.reader.specs.Reader.{sameKind, toldOf, countRight, answersTo, readAs};
-
-mod possible;
 
 // A reply's status, and where its data lie.
 pub struct Told {

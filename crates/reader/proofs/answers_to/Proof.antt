@@ -5,9 +5,9 @@ use native.Mathlib.Omega.{arith}
 use Rattle.octets.proofs.Tests.{passed, failed}
 use Rattle.frame.specs.declared.Way.the-variants.{Reply}
 use Rattle.frame.proofs.Verdict.{sound-fits, data-lent}
-use Rattle.reader.specs.declared.Told.{Told}
 use Rattle.requests.specs.Request.{controlOf}
-use Rattle.reader.specs.Possible.{possible}
+use Rattle.possible.specs.Possible.{possible}
+use Rattle.reader.specs.declared.Told.{Told}
 use Rattle.reader.specs.Reader.{sameKind, toldOf}
 use Rattle.reader.proofs.Judging.{other-kind, other-desk, other-control, not-possible, by-count}
 use borrow.Author.Needs.{needs}

@@ -1,0 +1,4 @@
+pub mod Chances
+pub mod Answers
+pub mod Witness
+pub mod Given
