@@ -1,5 +1,2 @@
-pub mod Widths
-pub mod Marks
-pub mod Whole
 pub mod Outcomes
 pub mod Turns

@@ -14,9 +14,9 @@ use Rattle.octets.proofs.Rows.{Wide, rows-length, rows-wide, rows-snoc, joined-
 use Rattle.table.specs.Entries.{recordWidth}
 use Rattle.rules.specs.Records.{recordsFor}
 use Rattle.rules.specs.Line.{line}
+use Rattle.pieces.specs.Pieces.{widthOf}
+use Rattle.pieces.proofs.Widths.{line-length}
 use Rattle.lines.specs.Lines.{recordsIn, linesOf}
-use Rattle.lines.specs.Pieces.{widthOf}
-use Rattle.lines.proofs.Widths.{line-length}
 
 -- ---- room
 

@@ -12,10 +12,8 @@ ghost use lib.ListN.{length};
 ghost use Rattle.octets.specs.Parts.{put};
 ghost use Rattle.rules.specs.Config.{lineLegal, blockSize};
 ghost use Rattle.rules.specs.Line.{line};
+ghost use Rattle.pieces.specs.Pieces.{widthOf};
 ghost use Rattle.lines.specs.Lines.{Lined, recordsIn, linesOf};
-ghost use Rattle.lines.specs.Pieces.{widthOf};
-
-mod pieces;
 
 // Whether block 7 follows the rules.
 fn legal(block: &[u8]) -> bool

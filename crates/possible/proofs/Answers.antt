@@ -7,7 +7,7 @@ use mathlib.Core.Option.{none, some}
 use native.Mathlib.Omega.{arith}
 use lib.ListN.{length, take, length-take, length-append}
 use lib.Dec.{eqb, ltb, lit<}
-use borrow.Author.Tests.{ltb-true, le-ltb, lt-ltb, le-leb, eq-eqb, eqb-false, not-false, lt-leb}
+use borrow.Author.Tests.{ltb-true, lt-ltb, le-leb, eq-eqb, eqb-false, not-false, lt-leb}
 use Rattle.octets.specs.Numbers.{octets, u16At}
 use Rattle.octets.specs.Tests.{first}
 use Rattle.octets.proofs.Tests.{and-left}
@@ -22,7 +22,6 @@ use Rattle.rules.specs.Config.{inEeprom, blockOf, namesOne, namesSome, lineLega
 use Rattle.rules.specs.Desk.{Desk, Table, memoryOf}
 use Rattle.rules.specs.Records.{mostSent, goes, readStatus, counted}
 use Rattle.rules.specs.Command.{rowTests, tableTests, Result, result, done, rowEffect, tableEffect, unless, passwordIs}
-use Rattle.rules.specs.Box.{noDesk}
 use Rattle.rules.proofs.Facts.{TableLegal, RecordLegal, DeskLegal}
 use Rattle.rules.proofs.Memories.{length-block}
 use Rattle.rules.proofs.Desks.{memory-of, names-one}

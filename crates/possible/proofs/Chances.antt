@@ -7,12 +7,11 @@ use native.Mathlib.Omega.{arith}
 use borrow.Author.Tests.{eq-eqb, ne-eqb, lt-ltb, le-ltb, le-leb, lt-leb}
 use Rattle.frame.specs.declared.Kind.{Kind}
 use Rattle.table.specs.Entries.{recordWidth, share}
-use Rattle.rules.specs.Records.{mostSent}
+use Rattle.rules.specs.Records.{mostSent, recordsFor}
 use Rattle.requests.specs.declared.Ask.{Ask}
 use Rattle.requests.specs.declared.Request.{Request}
 use Rattle.requests.specs.Request.{denied, needsLogin}
 use Rattle.possible.specs.Possible.{plain, statusMay, recordsMay, allowed, mayAnswer}
-use Rattle.rules.specs.Records.{recordsFor}
 
 false-or : (b : Bool) → b || false ≡ b
 false-or true = refl

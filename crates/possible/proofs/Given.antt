@@ -13,7 +13,7 @@ use Rattle.frame.specs.declared.Kind.{Kind}
 use Rattle.table.specs.Entries.{recordWidth, share}
 use Rattle.rules.specs.Config.{blockOf, blockSize}
 use Rattle.rules.specs.Desk.{Desk, freshDesk, withLogin, withTable}
-use Rattle.rules.specs.Records.{mostSent}
+use Rattle.rules.specs.Records.{mostSent, recordsFor}
 use Rattle.rules.specs.Command.{Result, result, passwordIs}
 use Rattle.rules.specs.Legal.{deskLegal}
 use Rattle.rules.proofs.Facts.{DeskLegal, desk-test}
@@ -23,7 +23,6 @@ use Rattle.requests.specs.declared.Ask.the-variants.{Baud, Reset, SystemReset, 
 use Rattle.requests.specs.declared.Request.{Request}
 use Rattle.requests.specs.Request.{fieldsHold, denied, needsLogin}
 use Rattle.possible.specs.Possible.{pair, plain, statusMay, recordsMay, allowed, mayAnswer, possible}
-use Rattle.rules.specs.Records.{recordsFor}
 use Rattle.requests.proofs.Asked.{answerTo, asked-barred}
 use Rattle.requests.proofs.Denied.{denied-is}
 use Rattle.possible.proofs.Answers.{k-back, sent-length, openMay, open-may}

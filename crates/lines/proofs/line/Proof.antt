@@ -2,7 +2,7 @@
 use native.Mathlib.Omega.{arith}
 use borrow.Author.Needs.{needs}
 use Rattle.octets.proofs.Tests.{passed, failed}
-use Rattle.lines.proofs.Widths.{line-length}
+use Rattle.pieces.proofs.Widths.{line-length}
 use Rattle.lines.proofs.Outcomes.{illegal, no-room, done}
 use Rattle.lines.proofs.line.Statement.{statement}
 use Rattle.lines.proofs.line.Tie as tie

@@ -4,7 +4,7 @@ use mathlib.Core.Path.{sym, _∙_}
 use borrow.Author.Needs.{needs}
 use lib.ListN.{length}
 use Rattle.octets.proofs.Tests.{passed, failed}
-use Rattle.lines.specs.Pieces.{widthOf}
+use Rattle.pieces.specs.Pieces.{widthOf}
 use Rattle.lines.proofs.Turns.{room-short, room-enough, all-length}
 use Rattle.lines.proofs.Outcomes.{illegal, no-room, done}
 use Rattle.lines.proofs.lines.Statement.{statement}

@@ -8,7 +8,7 @@ use lib.ListN.{length, length-take, length-drop}
 use Rattle.table.specs.Entries.{recordWidth}
 use Rattle.octets.specs.Parts.{put}
 use Rattle.octets.proofs.Puts.{put-length}
-use Rattle.lines.specs.Pieces.{widthOf}
+use Rattle.pieces.specs.Pieces.{widthOf}
 use Rattle.lines.proofs.Turns.{turn-room, records-fit, firstLines, none-first, all-first, line-turn}
 use Rattle.lines.proofs.put_lines.Statement.{statement}
 use Rattle.lines.proofs.put_lines.Tie as tie

@@ -6,7 +6,7 @@ use Rattle.possible.proofs.is_plain.Tie as tie
 
 returns : tie.Need-returns
 unfolding plain
-returns c = cc
+returns c = c .is-pair .ensures
 
 pub is-plain-spec : {M : Type 1} → statement M
 is-plain-spec = tie.close (tie.spec (λ c κs. search needs) returns)

@@ -1,0 +1,3 @@
+pub mod Widths
+pub mod Marks
+pub mod Whole
