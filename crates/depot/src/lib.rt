@@ -4,10 +4,10 @@ use frame::Advanced;
 use frame::Frame;
 use frame::Judged;
 use frame::Refusal;
-use frame::Sealed;
 use frame::Way;
 use rules::Seen;
 use rules::no_desk;
+use seal::Sealed;
 ghost use mathlib.Core.Path.{_≡_};
 ghost use mathlib.Core.Bool.{true};
 ghost use mathlib.Core.List.{[]};
@@ -61,7 +61,7 @@ fn served(store: &mut [u8], frame: &[u8], f: Frame, out: &mut [u8]) -> Answer
         &frame[start..end],
         out,
     );
-    match frame::seal_reply(out, kind, address, f.control, r.status, r.len) {
+    match seal::seal_reply(out, kind, address, f.control, r.status, r.len) {
         Sealed::Octets(n) => Answer::Reply(n),
         Sealed::Not => Answer::Done,
     }
