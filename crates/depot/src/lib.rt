@@ -71,7 +71,7 @@ fn served(store: &mut [u8], frame: &[u8], f: Frame, out: &mut [u8]) -> Answer
 pub fn frame(store: &mut [u8], frame: &[u8], out: &mut [u8]) -> Answer
     ensures { λ r. ⌜ Called (Event.frame (now (frame .entry)) (length (now (out .entry)))) (now (store .entry)) (now (out .entry)) r (now (store .exit)) (now (out .exit)) ⌝ }
 {
-    if !store::sound::test(store) {
+    if !soundness::test(store) {
         return Answer::Refused(Refusal::Unsound);
     }
     if out.len() < Advanced::LONGEST {
@@ -87,7 +87,7 @@ pub fn frame(store: &mut [u8], frame: &[u8], out: &mut [u8]) -> Answer
 pub fn sighting(store: &mut [u8], desk: u64, uid: u64, mask: u8) -> Answer
     ensures { λ r. ⌜ Called (Event.sighting desk uid mask) (now (store .entry)) [] r (now (store .exit)) [] ⌝ }
 {
-    if !store::sound::test(store) {
+    if !soundness::test(store) {
         return Answer::Refused(Refusal::Unsound);
     }
     if no_desk(desk) {
@@ -103,7 +103,7 @@ pub fn sighting(store: &mut [u8], desk: u64, uid: u64, mask: u8) -> Answer
 pub fn tick(store: &mut [u8]) -> Answer
     ensures { λ r. ⌜ Called Event.tick (now (store .entry)) [] r (now (store .exit)) [] ⌝ }
 {
-    if !store::sound::test(store) {
+    if !soundness::test(store) {
         return Answer::Refused(Refusal::Unsound);
     }
     sightings::tick(store);

@@ -1,0 +1,13 @@
+-- `soundness::clear_pair` meets its contract. Assumes nothing.
+use borrow.Author.Needs.{needs}
+use Rattle.soundness.proofs.clear_pair.Statement.{statement}
+use Rattle.soundness.proofs.clear_pair.Tie as tie
+
+returns : tie.Need-returns
+returns c = cc
+
+pub clear-pair-spec : {M : Type 1} → statement M
+clear-pair-spec =
+    tie.close
+    (tie.spec (λ c κs. search needs) (λ c κs. search needs) (λ c κs. search needs) (λ c κs. search needs) (λ c κs. search needs)
+    returns)
