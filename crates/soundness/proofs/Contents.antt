@@ -22,11 +22,11 @@ use Rattle.rules.proofs.Facts.{RecordLegal, record-test}
 use Rattle.store.specs.Layout.{storeSize, rowWidth, rowsArea, entriesArea, sizeOf, header, startOf, usedOf, area}
 use Rattle.store.specs.View.{deskIn, boxFrom, rowsIn, entriesIn, inUse, viewOf}
 use Rattle.store.specs.Sound.{flagsRight, contents}
-use Rattle.soundness.specs.Tested.{rowSound}
 use Rattle.store.proofs.Places.{Fine}
 use Rattle.store.proofs.LentAreas.{area-size, areas-at, areas-header}
 use Rattle.store.proofs.Boxes.{box-length}
 use Rattle.store.proofs.RowTests.{same-test}
+use Rattle.soundness.specs.Tested.{rowSound}
 
 -- ---- row by row
 

@@ -22,7 +22,7 @@ abbrev μ-loop : tie.MeasureT-loop
 -- where the area ends, by what was told
 ends : (c : tie.After-size Inv-loop μ-loop)
     → let z = c .before .before .before in c .before .start .result + c .size .result ≡ startOf (header (z .args .s .now)) (z .args .k) + sizeOf (z .args .k)
-ends c = cc
+ends c = rw (c .before .start .ensures .0, c .size .ensures .0)
 
 returns : tie.Need-returns Inv-loop μ-loop
 returns c = rw (← ends (c .before), lt-leb _ _ (c .if1 .taken))

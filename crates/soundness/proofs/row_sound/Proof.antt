@@ -3,8 +3,8 @@ use mathlib.Core.Path.{_≡_}
 use mathlib.Core.List.{List}
 use Prim.Native.Nat.{ℕ}
 use Rattle.octets.proofs.Tests.{passed, failed}
-use Rattle.soundness.specs.Tested.{rowSound}
 use Rattle.store.proofs.RowTests.{tests, desk-tests}
+use Rattle.soundness.specs.Tested.{rowSound}
 use borrow.Author.Needs.{needs}
 use Rattle.soundness.proofs.row_sound.Statement.{statement}
 use Rattle.soundness.proofs.row_sound.Tie as tie
