@@ -11,13 +11,14 @@ use Rattle.octets.specs.Parts.{put}
 use Rattle.frame.specs.declared.Way.the-variants.{Request, Reply}
 use Rattle.frame.specs.declared.Frame.{Frame}
 use Rattle.frame.specs.declared.Judged.the-variants.{Sound}
-use Rattle.frame.specs.declared.Sealed.the-variants.{Octets as Octets′, Not}
 use Rattle.frame.proofs.Verdict.{sound-parts}
 use Rattle.frame.specs.declared.Refusal.{Refusal}
 use Rattle.frame.specs.declared.Refusal.the-variants.{Unsound}
 use Rattle.frame.specs.Shape.{shapeOf, replyRoom, overhead}
 use Rattle.frame.specs.Judged.{judged, dataOf}
-use Rattle.frame.specs.Sealed.{frameOf, sealedAs, replyIn}
+use Rattle.frame.specs.Sealed.{frameOf}
+use Rattle.seal.specs.declared.Sealed.the-variants.{Octets as Octets′, Not}
+use Rattle.seal.specs.Buffer.{sealedAs, replyIn}
 use Rattle.table.specs.Entries.{desks}
 use Rattle.rules.specs.Control.{known}
 use Rattle.rules.specs.Command.{Result, answered}

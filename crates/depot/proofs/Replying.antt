@@ -10,11 +10,12 @@ use Rattle.octets.proofs.Puts.{put-length, part-put-same, put-over}
 use Rattle.frame.specs.declared.Kind.{Kind}
 use Rattle.frame.specs.declared.Kind.the-variants.{Standard, Advanced}
 use Rattle.frame.specs.declared.Way.the-variants.{Reply}
-use Rattle.frame.specs.declared.Sealed.the-variants.{Octets}
 use Rattle.frame.specs.Shape.{shapeOf, replyRoom, overhead, dataAt}
-use Rattle.frame.specs.Sealed.{frameOf, fitsIn, sealedAs, replyIn}
-use Rattle.frame.proofs.Room.{fits-in}
-use Rattle.frame.proofs.Seal.{length-frame}
+use Rattle.frame.specs.Sealed.{frameOf}
+use Rattle.frame.proofs.Lengths.{length-frame}
+use Rattle.seal.specs.declared.Sealed.the-variants.{Octets}
+use Rattle.seal.specs.Buffer.{fitsIn, sealedAs, replyIn}
+use Rattle.seal.proofs.Room.{fits-in}
 
 -- the longest frame is no longer than the reply buffer
 pub longest-fits : (k : Kind) → shapeOf k .longest ≤ replyRoom

@@ -13,7 +13,7 @@ use Rattle.frame.specs.declared.Refusal.{Refusal}
 use Rattle.frame.specs.declared.Refusal.the-variants.{Unsound}
 use Rattle.frame.specs.Judged.{dataOf}
 use Rattle.frame.specs.Sealed.{frameOf}
-use Rattle.frame.proofs.Seal.{length-frame}
+use Rattle.frame.proofs.Lengths.{length-frame}
 use Rattle.rules.specs.Control.{known}
 use Rattle.rules.specs.Command.{answered}
 use Rattle.rules.specs.Desk.{Desk}

@@ -4,10 +4,10 @@ use frame::Advanced;
 use frame::Frame;
 use frame::Judged;
 use frame::Refusal;
-use frame::Sealed;
 use frame::Way;
 use rules::Seen;
 use rules::no_desk;
+use seal::Sealed;
 ghost use mathlib.Core.Path.{_≡_};
 ghost use mathlib.Core.Bool.{true};
 ghost use mathlib.Core.List.{[]};
@@ -61,7 +61,7 @@ fn served(store: &mut [u8], frame: &[u8], f: Frame, out: &mut [u8]) -> Answer
         &frame[start..end],
         out,
     );
-    match frame::seal_reply(out, kind, address, f.control, r.status, r.len) {
+    match seal::seal_reply(out, kind, address, f.control, r.status, r.len) {
         Sealed::Octets(n) => Answer::Reply(n),
         Sealed::Not => Answer::Done,
     }
@@ -71,7 +71,7 @@ fn served(store: &mut [u8], frame: &[u8], f: Frame, out: &mut [u8]) -> Answer
 pub fn frame(store: &mut [u8], frame: &[u8], out: &mut [u8]) -> Answer
     ensures { λ r. ⌜ Called (Event.frame (now (frame .entry)) (length (now (out .entry)))) (now (store .entry)) (now (out .entry)) r (now (store .exit)) (now (out .exit)) ⌝ }
 {
-    if !store::sound::test(store) {
+    if !soundness::test(store) {
         return Answer::Refused(Refusal::Unsound);
     }
     if out.len() < Advanced::LONGEST {
@@ -87,7 +87,7 @@ pub fn frame(store: &mut [u8], frame: &[u8], out: &mut [u8]) -> Answer
 pub fn sighting(store: &mut [u8], desk: u64, uid: u64, mask: u8) -> Answer
     ensures { λ r. ⌜ Called (Event.sighting desk uid mask) (now (store .entry)) [] r (now (store .exit)) [] ⌝ }
 {
-    if !store::sound::test(store) {
+    if !soundness::test(store) {
         return Answer::Refused(Refusal::Unsound);
     }
     if no_desk(desk) {
@@ -103,7 +103,7 @@ pub fn sighting(store: &mut [u8], desk: u64, uid: u64, mask: u8) -> Answer
 pub fn tick(store: &mut [u8]) -> Answer
     ensures { λ r. ⌜ Called Event.tick (now (store .entry)) [] r (now (store .exit)) [] ⌝ }
 {
-    if !store::sound::test(store) {
+    if !soundness::test(store) {
         return Answer::Refused(Refusal::Unsound);
     }
     sightings::tick(store);

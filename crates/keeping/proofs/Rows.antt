@@ -20,7 +20,7 @@ use Rattle.store.specs.Layout.{storeSize, rowWidth, sizeOf, header, startOf, ar
 use Rattle.store.specs.Rows.{field, countAt}
 use Rattle.store.specs.View.{deskIn, rowsIn, inUse, viewOf, view}
 use Rattle.store.specs.Sound.{sound}
-use Rattle.store.proofs.Contents.{box-length}
+use Rattle.store.proofs.Boxes.{box-length}
 use Rattle.store.proofs.Changes.{Flagged, Sound, sound-facts, sound-test}
 use Rattle.views.proofs.Anew.{row-length, row-flags, desk-is, Left, row-anew, entries-anew, row-inside as inside}
 use Rattle.views.proofs.LegalView.{legal-at, few-locks as locks-few}

@@ -14,11 +14,12 @@ use Rattle.octets.proofs.Puts.{put-length, part-put-same, put-over}
 use Rattle.frame.specs.declared.Kind.{Kind}
 use Rattle.frame.specs.declared.Way.the-variants.{Request}
 use Rattle.frame.specs.declared.Refusal.the-variants.{NoDesk, OutOfRange, NoRoom}
-use Rattle.frame.specs.declared.Sealed.the-variants.{Octets, Not}
 use Rattle.frame.specs.Shape.{overhead, dataAt}
-use Rattle.frame.specs.Sealed.{frameOf, fitsIn, sealedAs, requestIn}
-use Rattle.frame.proofs.Room.{by-room, within}
-use Rattle.frame.proofs.Seal.{length-frame}
+use Rattle.frame.specs.Sealed.{frameOf}
+use Rattle.frame.proofs.Lengths.{length-frame}
+use Rattle.seal.specs.declared.Sealed.the-variants.{Octets, Not}
+use Rattle.seal.specs.Buffer.{fitsIn, sealedAs, requestIn}
+use Rattle.seal.proofs.Room.{by-room, within}
 use Rattle.rules.specs.declared.Written.the-variants as written
 use Rattle.table.specs.Entries.{desks}
 use Rattle.rules.specs.declared.control.Terms.{Terms}

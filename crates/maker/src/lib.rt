@@ -1,6 +1,5 @@
 // The maker: a request becomes a frame at the start of a lent output.
 use frame::Refusal;
-use frame::Sealed;
 use frame::Way;
 use requests::Ask;
 use requests::Request;
@@ -9,6 +8,7 @@ use requests::terms_of;
 use rules::BLOCK;
 use rules::Written;
 use rules::no_desk;
+use seal::Sealed;
 ghost use mathlib.Core.Path.{_≡_};
 ghost use mathlib.Core.Bool.{true, false};
 ghost use Prim.Native.Nat.{_+_, _≤_, _<_};
@@ -17,7 +17,7 @@ ghost use lib.ListN.{length};
 ghost use Rattle.octets.specs.Parts.{put};
 ghost use Rattle.octets.specs.Numbers.{octets};
 ghost use Rattle.frame.specs.declared.Way.{Way};
-ghost use Rattle.frame.specs.Sealed.{fitsIn};
+ghost use Rattle.seal.specs.Buffer.{fitsIn};
 ghost use Rattle.table.specs.Entries.{desks};
 ghost use Rattle.rules.specs.Config.{blockSize};
 ghost use Rattle.requests.specs.Request.{controlOf, fieldsHold, bodyOf, dataFor, inRange};
@@ -93,7 +93,7 @@ fn put_frame(q: Request, out: &mut [u8], control: u8, len: usize) -> Written
     let way = Way::Request;
     let at = way.data_at(kind);
     put_data(&mut out[at..], ask, bytes);
-    match frame::seal_request(out, kind, q.desk as u8, control, len) {
+    match seal::seal_request(out, kind, q.desk as u8, control, len) {
         Sealed::Octets(n) => Written::Octets(n),
         Sealed::Not => Written::Refused(Refusal::NoRoom),
     }
@@ -113,7 +113,7 @@ pub fn make(q: Request, out: &mut [u8]) -> Written
     let ask = q.ask;
     let t = terms_of(ask);
     let len = t.size;
-    if !frame::has_room(Way::Request, kind, len, out.len()) {
+    if !seal::has_room(Way::Request, kind, len, out.len()) {
         return Written::Refused(Refusal::NoRoom);
     }
     put_frame(q, out, t.control, len)

@@ -13,10 +13,10 @@
 use depot::Answer;
 use frame::Advanced;
 use frame::Kind;
-use frame::Sealed;
 use frame::Standard;
 use libc::STDOUT_FILENO;
 use rules::Seen;
+use seal::Sealed;
 ghost use Prim.Native.Nat.{_≤_};
 ghost use lib.ListN.{length};
 
@@ -190,7 +190,7 @@ fn data_at(kind: Kind) -> usize {
 // Makes a request in the buffer, and says how many octets it has.
 fn request(buf: &mut [u8], kind: Kind, desk: u8, control: u8, data: &[u8]) -> usize {
     place(buf, data_at(kind), data);
-    match frame::seal_request(buf, kind, desk, control, data.len()) {
+    match seal::seal_request(buf, kind, desk, control, data.len()) {
         Sealed::Octets(n) => n,
         Sealed::Not => 0,
     }

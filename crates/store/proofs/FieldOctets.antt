@@ -1,6 +1,7 @@
 -- The fields of a row and the blocks 7 of its memories, read as octets of the row. Assumes nothing.
 use Prim.Native.Nat.{ℕ, _+_, _*_, _≤_, _<_}
 use mathlib.Core.Path.{_≡_, ap, _∙_}
+use mathlib.Core.Bool.{Bool}
 use mathlib.Core.List.{List}
 use native.Mathlib.Omega.{arith}
 use lib.Dec.{lit<}
@@ -24,6 +25,12 @@ field-octet row k e = ap (λ (n : ℕ). number (part (fieldAt k) n row)) e ∙ n
 pub field-pair : (row : List ℕ) (k : ℕ) → fieldSize k ≡ 2 → number (field row k) ≡ u16At (fieldAt k) row
 unfolding field u16At
 field-pair row k e = ap (λ (n : ℕ). number (part (fieldAt k) n row)) e
+
+-- what is told of a memory at a place is told of the field that begins there
+pub memory-field : (row : List ℕ) (k at : ℕ) (r : Bool) → r ≡ memoryLegal (part at memorySize row) → at ≡ fieldAt k → fieldSize k ≡ memorySize
+    → r ≡ memoryLegal (field row k)
+unfolding field
+memory-field row k at r told e n = rw (n, ← e) told
 
 -- block 7 of a memory, octet by octet: it begins behind seven blocks
 abbrev pub line : ℕ

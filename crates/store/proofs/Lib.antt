@@ -3,6 +3,6 @@ pub mod Places
 pub mod Fields
 pub mod FieldOctets
 pub mod LentAreas
+pub mod Boxes
 pub mod RowTests
-pub mod Contents
 pub mod Changes

@@ -1,8 +1,7 @@
 -- Whether a store is sound: the paper's sentence. Size, offsets and counts here; the rest is that the box which the store says is legal.
 -- Assumes nothing.
 use Prim.Native.Nat.{ℕ, _+_}
-use mathlib.Core.Path.{_≡_}
-use mathlib.Core.Bool.{Bool, true, _&&_}
+use mathlib.Core.Bool.{Bool, _&&_}
 use mathlib.Core.List.{List}
 use lib.ListN.{length}
 use lib.Dec.{eqb, leb}
@@ -10,10 +9,10 @@ use Rattle.octets.specs.Tests.{every, allOf}
 use Rattle.octets.specs.Numbers.{number}
 use Rattle.octets.specs.Areas.{clearBelow}
 use Rattle.table.specs.Entries.{desks, entryCount, ownersBelow}
-use Rattle.rules.specs.Legal.{recordLegal, deskLegal, boxLegal}
+use Rattle.rules.specs.Legal.{boxLegal}
 use Rattle.store.specs.Layout.{storeSize, areaCount, sizeOf, header, startOf, usedOf, areas}
 use Rattle.store.specs.Rows.{loginField, markField, field}
-use Rattle.store.specs.View.{deskIn, rowsIn, entriesIn, viewOf}
+use Rattle.store.specs.View.{rowsIn, entriesIn, viewOf}
 
 -- ---- the header: offsets inside, no two areas overlapping, the count of entries in range
 
@@ -37,12 +36,3 @@ contents all = ownersBelow desks (entriesIn all) && allOf flagsRight (rowsIn all
 
 unfoldable pub sound : List ℕ → Bool
 sound s = eqb (length s) storeSize && fine (header s) && contents (areas s)
-
--- ---- row by row, as it is tested
-
-unfoldable pub rowSound : List ℕ → List (List ℕ) → Bool
-rowSound row rs = flagsRight row && deskLegal (deskIn row rs)
-
--- r is what a test says of a desk's records, where all that is known of them is that they are legal, and how many
-pub record Tells (held : ℕ) (P : List (List ℕ) → Bool) (r : Bool) : Type 0 where
-  pub told : (rs : List (List ℕ)) → length rs ≡ held → allOf recordLegal rs ≡ true → r ≡ P rs

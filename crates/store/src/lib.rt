@@ -5,8 +5,6 @@ ghost use lib.ListN.{length};
 ghost use Rattle.table.specs.Entries.{desks};
 ghost use Rattle.store.specs.Layout.{storeSize, areaCount, headerSize, sizeOf, header, startOf, usedOf, rowAt};
 
-pub mod sound;
-
 // The store's octets.
 pub const SIZE: usize = 40960;
 
@@ -46,7 +44,7 @@ pub const ROWS_AREA: usize = 1;
 
 pub const ENTRIES_AREA: usize = 2;
 
-const AREAS: usize = 3;
+pub const AREAS: usize = 3;
 
 const SIZES: [usize; AREAS] = [HEADER, ROW * table::DESKS, TABLE];
 

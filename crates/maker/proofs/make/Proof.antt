@@ -6,7 +6,7 @@ use lib.ListN.{length}
 use borrow.Author.Tests.{leb-true, leb-false}
 use Rattle.octets.proofs.Tests.{passed, failed}
 use Rattle.frame.specs.declared.Way.the-variants.{Request}
-use Rattle.frame.specs.Sealed.{fitsIn}
+use Rattle.seal.specs.Buffer.{fitsIn}
 use Rattle.table.specs.Entries.{desks}
 use Rattle.rules.specs.Config.{blockSize}
 use Rattle.rules.specs.declared.control.Terms.{Terms}
