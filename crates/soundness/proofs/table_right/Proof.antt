@@ -1,6 +1,6 @@
 -- `soundness::table_right` meets its contract: each way rewrites the tests by those that led there. Assumes nothing.
 use mathlib.Core.Path.{refl}
-use lib.ListN.{length}
+use lib.ListN.{length, getD}
 use native.Mathlib.Omega.{arith}
 use borrow.Author.Tests.{le-leb, lt-leb}
 use Rattle.octets.proofs.Tests.{passed, failed}
@@ -28,12 +28,13 @@ cast-if3 c = omega (arith, c .shared-slice-known2 .given dueAt)
 returns-3 : tie.Need-returns-3
 returns-3 c =
     let m = c .before .before in
+    let a = m .before .before .before .before .args in
     record {
       told = λ rs l p.
           rw (
             table-tests _ _ rs l p,
             passed (m .before .mark-right .ensures) (m .if2 .left),
-            lt-leb _ _ (c .if3 .taken),
+            lt-leb (getD (a .row .now) dueAt 0) (a .held) (omega (arith, c .if3 .taken)),
             ← l,
             le-leb (length rs) share (omega (arith, l, m .before .before .if1 .left)),
           );
@@ -42,12 +43,13 @@ returns-3 c =
 returns-4 : tie.Need-returns-4
 returns-4 c =
     let m = c .before .before .before in
+    let a = m .before .before .before .before .args in
     record {
       told = λ rs l p.
           rw (
             table-tests _ _ rs l p,
             passed (m .before .mark-right .ensures) (m .if2 .left),
-            le-leb _ _ (c .before .if3 .left),
+            le-leb (getD (a .row .now) dueAt 0) (a .held) (omega (arith, c .before .if3 .left)),
             ← l,
             le-leb (length rs) share (omega (arith, l, m .before .before .if1 .left)),
           ) refl;
