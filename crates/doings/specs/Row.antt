@@ -1,15 +1,11 @@
 -- What sightings, ticks and the commands of the table do to the row of one desk, octet for octet. Assumes nothing.
-use Prim.Native.Nat.{ℕ, _*_}
+use Prim.Native.Nat.{ℕ}
 use mathlib.Core.List.{List}
-use lib.ListN.{length, getD, replicate}
-use Rattle.octets.specs.Parts.{part, put}
-use Rattle.octets.specs.Numbers.{u16At}
+use lib.ListN.{replicate}
+use Rattle.octets.specs.Parts.{part}
 use Rattle.timer.specs.Clock.{stepOf, timerOctets, timerFrom}
-use Rattle.locks.specs.declared.Lock.{Lock}
-use Rattle.locks.specs.Locks.{mostLocks, added, sweptOf}
-use Rattle.lockarea.specs.Area.{lockWidth, locksIn, locksOctets}
-use Rattle.store.specs.Rows.{validAt, timerAt, markAt, dueAt, startAt, countAt, locksAt}
-use Rattle.rows.specs.Row.{one, timerRow, unlockedRow, restartedRow}
+use Rattle.store.specs.Rows.{timerAt, markAt, dueAt, startAt}
+use Rattle.rows.specs.Row.{one, timerRow, unlockedRow, sweptRow, restartedRow}
 
 -- ---- mark, removal due, TAB-START
 
@@ -23,23 +19,7 @@ dueRow n row = one dueAt n row
 unfoldable pub closedRow : ℕ → List ℕ → List ℕ
 closedRow start row = one startAt start (dueRow 0 (one markAt 0 row))
 
--- ---- the locks
-
--- the locks that a row says
-abbrev pub locksOf : List ℕ → List Lock
-locksOf row = locksIn (getD row countAt 0) (part locksAt (lockWidth * mostLocks) row)
-
--- the locks are these
-abbrev pub locksRow : List Lock → List ℕ → List ℕ
-locksRow ls row = one countAt (length ls) (put locksAt (locksOctets ls) row)
-
-unfoldable pub lockedRow : ℕ → List ℕ → List ℕ
-lockedRow uid row = locksRow (added uid (u16At validAt row) (locksOf row)) row
-
--- ---- a tick of the locks, and of the timer
-
-unfoldable pub sweptRow : List ℕ → List ℕ
-sweptRow row = locksRow (sweptOf (locksOf row)) row
+-- ---- a tick of the timer, and of the locks first
 
 unfoldable pub steppedRow : List ℕ → List ℕ
 steppedRow row = timerRow (timerOctets (stepOf (timerFrom (part timerAt 4 row)))) row

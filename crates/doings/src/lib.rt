@@ -1,12 +1,9 @@
 // What sightings, ticks and the commands of the table do to the row of one desk: `act`. Each function under it promises its octets by a
 // definition of specs/Row.
 use store::DUE;
-use store::LOCKED;
-use store::LOCKS;
 use store::MARK;
 use store::TAB_START;
 use store::TIMER;
-use store::VALID;
 ghost use mathlib.Core.Path.{_≡_};
 ghost use Prim.Native.Nat.{_≤_};
 ghost use lib.ListN.{length, getD};
@@ -15,7 +12,7 @@ ghost use Rattle.store.specs.Layout.{rowWidth};
 ghost use Rattle.store.specs.Rows.{countAt};
 ghost use Rattle.rows.specs.Change.{Fit, Change};
 ghost use Rattle.doings.specs.Doing.{doneBy};
-ghost use Rattle.doings.specs.Row.{midnightRow, closedRow, markedRow, dueRow, lockedRow, sweptRow, steppedRow, tickedRow, clearedRow, systemRow};
+ghost use Rattle.doings.specs.Row.{midnightRow, closedRow, markedRow, dueRow, steppedRow, tickedRow, clearedRow, systemRow};
 
 // The timer is zero.
 fn midnight(row: &mut [u8])
@@ -52,27 +49,6 @@ fn set_due(row: &mut [u8], n: u8)
     row[DUE] = n;
 }
 
-// A new lock of VALID-TIME ticks; where 64 stand, the oldest gives way.
-fn add_lock(row: &mut [u8], uid: u64)
-    requires { ⌜ (length (now row) ≡ rowWidth) × (getD (now row) countAt 0 ≤ mostLocks) ⌝ }
-    ensures { λ _. ⌜ now (row .exit) ≡ lockedRow uid (now (row .entry)) ⌝ }
-{
-    let n = row[LOCKED] as usize;
-    let valid = octets::get16(row, VALID);
-    let k = lockarea::add(&mut row[LOCKS..store::ROW], n, uid, valid);
-    row[LOCKED] = k as u8;
-}
-
-// Each lock loses a tick, and goes at zero.
-fn tick_locks(row: &mut [u8])
-    requires { ⌜ (length (now row) ≡ rowWidth) × (getD (now row) countAt 0 ≤ mostLocks) ⌝ }
-    ensures { λ _. ⌜ now (row .exit) ≡ sweptRow (now (row .entry)) ⌝ }
-{
-    let n = row[LOCKED] as usize;
-    let k = lockarea::tick(&mut row[LOCKS..store::ROW], n);
-    row[LOCKED] = k as u8;
-}
-
 // The timer is advanced.
 fn tick_timer(row: &mut [u8])
     requires { ⌜ length (now row) ≡ rowWidth ⌝ }
@@ -89,7 +65,7 @@ fn tick(row: &mut [u8])
     requires { ⌜ (length (now row) ≡ rowWidth) × (getD (now row) countAt 0 ≤ mostLocks) ⌝ }
     ensures { λ _. ⌜ now (row .exit) ≡ tickedRow (now (row .entry)) ⌝ }
 {
-    tick_locks(row);
+    rows::tick_locks(row);
     tick_timer(row);
 }
 
@@ -140,7 +116,7 @@ pub fn act(row: &mut [u8], what: Doing)
         Doing::Close(start) => close_table(row, start),
         Doing::Clear => clear(row),
         Doing::Restart => restart_all(row),
-        Doing::Lock(uid) => add_lock(row, uid),
+        Doing::Lock(uid) => rows::add_lock(row, uid),
         Doing::Tick => tick(row),
     }
 }

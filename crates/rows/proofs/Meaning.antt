@@ -1,24 +1,33 @@
--- What each change of a row by its own commands means, as the rules have it. Assumes nothing.
-use Prim.Native.Nat.{ℕ, _+_, _*_, _<_}
-use mathlib.Core.Path.{_≡_, refl}
+-- What each change of a row means, as the rules have it. Assumes nothing.
+use Prim.Native.Nat.{ℕ, _+_, _*_, _^_, _≤_, _<_}
+use mathlib.Core.Path.{_≡_, refl, sym, ap}
 use mathlib.Core.Bool.{Bool, true, false}
 use mathlib.Core.List.{List, [], _∷_}
 use native.Mathlib.Omega.{arith}
 use lib.Dec.{lit<, lit≤}
-use lib.ListN.{length}
-use Rattle.octets.specs.Parts.{part, rows}
-use Rattle.octets.specs.Numbers.{number, u16At}
+use lib.ListN.{length, getD}
+use Rattle.octets.specs.Parts.{part, put, rows}
+use Rattle.octets.specs.Numbers.{number, u16At, Octets}
 use Rattle.octets.specs.Areas.{upto}
-use Rattle.octets.proofs.Puts.{part-length, part-part}
+use Rattle.octets.proofs.Puts.{part-length, part-part, part-put-in}
 use Rattle.timer.specs.Clock.{timerFrom}
-use Rattle.lockarea.specs.Area.{locksIn}
+use Rattle.lockarea.specs.Area.{lockWidth, locksIn, locksOctets}
 use Rattle.rules.specs.Config.{blockSize, blockCount, memorySize, blockAt, written, validOf, defaults}
 use Rattle.rules.specs.Desk.{memoryOf, withMemory, withValid, withLogin, withTimer, withLocks, restarted}
 use Rattle.rules.proofs.Memories.{defaults-legal}
-use Rattle.store.specs.Rows.{ramAt, eepromAt, field, fields, ramField, eepromField, validField, loginField, timerField, countField}
-use Rattle.store.specs.View.{deskOf}
-use Rattle.rows.specs.Row.{loginRow, timerRow, writtenRow, savedRow, allSavedRow, unlockedRow, loadedRow, validRow, restartedRow, defaultRow}
-use Rattle.rows.proofs.Changes.{change-as, Changes, in-turn, into-change, over-change}
+use Rattle.store.specs.Rows.{ramAt, eepromAt, field, fields, ramField, eepromField, validField, loginField, timerField, countField, validAt, countAt, locksAt, locksField}
+use Rattle.store.specs.View.{deskOf, deskIn}
+use Rattle.octets.specs.Each.{All}
+use Rattle.octets.proofs.Numbers.{number-one, number-at, u16At-lt, octets-part}
+use Rattle.locks.specs.declared.Lock.{Lock}
+use Rattle.locks.specs.Locks.{mostLocks, added, sweptOf}
+use Rattle.locks.proofs.Sound.{LockFits, added-fit, swept-fit}
+use Rattle.lockarea.proofs.Stored.{locks-octets-length, locks-put, locks-in-fit}
+use Rattle.store.proofs.Fields.{field-length}
+use Rattle.rows.proofs.Lent.{swept-few, locked-few}
+use Rattle.rows.specs.Change.{Fit, Change}
+use Rattle.rows.specs.Row.{locksOf, locksRow, lockedRow, sweptRow, loginRow, timerRow, writtenRow, savedRow, allSavedRow, unlockedRow, loadedRow, validRow, restartedRow, defaultRow}
+use Rattle.rows.proofs.Changes.{change-then, change-as, Changes, in-turn, into-change, over-change}
 
 -- ---- login, timer, no locks
 
@@ -77,3 +86,43 @@ valid-change row fit =
 pub restarted-change : Changes restarted restartedRow
 unfolding restartedRow restarted withMemory
 restarted-change = in-turn (in-turn (in-turn loaded-change valid-change) (login-change false)) unlocked-change
+
+-- ---- the locks
+
+module _ (row : List ℕ) (fit : Fit row) where
+  -- their octets, and then their count
+  locks-change : (ls : List Lock) → All LockFits ls → length ls ≤ mostLocks → Change (withLocks ls) row (locksRow ls row)
+  unfolding deskOf fields field upto withLocks
+  locks-change ls legal few =
+      let row′ : List ℕ = put locksAt (locksOctets ls) row in
+      let size : length (locksOctets ls) ≡ lockWidth * length ls = locks-octets-length ls in
+      let p : Change (withLocks (locksIn (number (field row countField)) (put 0 (locksOctets ls) (field row locksField)))) row row′ =
+      into-change _ row fit locksField 0 (locksOctets ls) (lit< tt) (omega arith) refl (λ rs. refl)
+      in
+      let q : Change (withLocks (locksIn (length ls) (field row′ locksField))) row′ (locksRow ls row) =
+      over-change _ row′ (p .fit) countField (length ls ∷ []) (lit< tt) refl refl (λ rs. rw number-one)
+      in
+      change-as (change-then p q)
+      (λ rs. rw (part-put-in locksAt (lockWidth * mostLocks) 0 (locksOctets ls) row (omega arith), locks-put ls (field row locksField) legal (omega (arith, field-length row (fit .size) locksField (lit< tt)))))
+
+  module _ (octet : Octets row) (few : getD row countAt 0 ≤ mostLocks) where
+    -- the locks of the row are those of its desk
+    locks-of : (rs : List (List ℕ)) → locksOf row ≡ deskIn row rs .locks
+    unfolding deskOf fields field upto
+    locks-of rs = ap (λ (n : ℕ). locksIn n (part locksAt (lockWidth * mostLocks) row)) (sym (number-at countAt row))
+
+    legal : All LockFits (locksOf row)
+    legal = locks-in-fit (getD row countAt 0) (part locksAt (lockWidth * mostLocks) row) (octets-part locksAt (lockWidth * mostLocks) row octet)
+        (omega (arith, part-length locksAt (lockWidth * mostLocks) row (omega (arith, fit .size))))
+
+    pub locked-change : (uid : ℕ) → uid < 2 ^ 64 → Change (λ d. withLocks (added uid (d .valid) (d .locks)) d) row (lockedRow uid row)
+    unfolding lockedRow deskOf fields field upto u16At
+    locked-change uid h =
+        let valid : ℕ = u16At validAt row in
+        let v : valid < 65536 = u16At-lt validAt row octet (omega (arith, fit .size)) in
+        change-as (locks-change (added uid valid (locksOf row)) (added-fit valid uid (locksOf row) (record { uid = h; left = v }) legal) (locked-few row few uid valid))
+        (λ rs. rw (locks-of rs))
+
+    pub swept-change : Change (λ d. withLocks (sweptOf (d .locks)) d) row (sweptRow row)
+    unfolding sweptRow
+    swept-change = change-as (locks-change (sweptOf (locksOf row)) (swept-fit (locksOf row) legal) (swept-few row few)) (λ rs. rw (locks-of rs))

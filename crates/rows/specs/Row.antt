@@ -1,16 +1,21 @@
--- What the commands of a desk's row do to it, octet for octet. Assumes nothing.
+-- What is done to the login, the timer, the locks and the memories of a desk's row, octet for octet. Assumes nothing.
 use Prim.Native.Nat.{ℕ, _+_, _*_}
 use mathlib.Core.Bool.{Bool, true, false, cond}
 use mathlib.Core.List.{List, [], _∷_}
+use lib.ListN.{length, getD}
 use Rattle.octets.specs.Parts.{part, put}
+use Rattle.octets.specs.Numbers.{u16At}
+use Rattle.locks.specs.declared.Lock.{Lock}
+use Rattle.locks.specs.Locks.{mostLocks, added, sweptOf}
+use Rattle.lockarea.specs.Area.{lockWidth, locksIn, locksOctets}
 use Rattle.rules.specs.Config.{blockSize, memorySize, defaults}
-use Rattle.store.specs.Rows.{ramAt, eepromAt, validAt, loginAt, timerAt, countAt}
+use Rattle.store.specs.Rows.{ramAt, eepromAt, validAt, loginAt, timerAt, countAt, locksAt}
 
 -- one octet is written
 abbrev pub one : ℕ → ℕ → List ℕ → List ℕ
 one at x row = put at (x ∷ []) row
 
--- ---- login, timer, no locks
+-- ---- login, timer
 
 unfoldable pub loginRow : Bool → List ℕ → List ℕ
 loginRow b row = one loginAt (cond b 1 0) row
@@ -18,8 +23,24 @@ loginRow b row = one loginAt (cond b 1 0) row
 unfoldable pub timerRow : List ℕ → List ℕ → List ℕ
 timerRow body row = put timerAt body row
 
+-- ---- the locks: none, a new one, a tick
+
 unfoldable pub unlockedRow : List ℕ → List ℕ
 unlockedRow row = one countAt 0 row
+
+-- the locks that a row says
+abbrev pub locksOf : List ℕ → List Lock
+locksOf row = locksIn (getD row countAt 0) (part locksAt (lockWidth * mostLocks) row)
+
+-- the locks are these
+abbrev pub locksRow : List Lock → List ℕ → List ℕ
+locksRow ls row = one countAt (length ls) (put locksAt (locksOctets ls) row)
+
+unfoldable pub lockedRow : ℕ → List ℕ → List ℕ
+lockedRow uid row = locksRow (added uid (u16At validAt row) (locksOf row)) row
+
+unfoldable pub sweptRow : List ℕ → List ℕ
+sweptRow row = locksRow (sweptOf (locksOf row)) row
 
 -- ---- the memories
 

@@ -1,8 +1,10 @@
-// What the commands of a desk's row do to it: each function promises its octets by a definition of specs/Row.
+// What is done to the login, the timer, the locks and the memories of a desk's row: each function promises its octets by a definition of
+// specs/Row.
 use rules::BLOCK;
 use rules::MEMORY;
 use store::EEPROM;
 use store::LOCKED;
+use store::LOCKS;
 use store::LOGIN;
 use store::RAM;
 use store::TIMER;
@@ -10,9 +12,11 @@ use store::VALID;
 ghost use mathlib.Core.Path.{_≡_};
 ghost use mathlib.Core.Bool.{cond};
 ghost use Prim.Native.Nat.{_≤_, _<_};
-ghost use lib.ListN.{length};
+ghost use lib.ListN.{length, getD};
+ghost use Rattle.locks.specs.Locks.{mostLocks};
 ghost use Rattle.store.specs.Layout.{rowWidth};
-ghost use Rattle.rows.specs.Row.{restartedRow, unlockedRow, loginRow, timerRow, memoryAt, writtenRow, savedRow, allSavedRow, defaultRow};
+ghost use Rattle.store.specs.Rows.{countAt};
+ghost use Rattle.rows.specs.Row.{restartedRow, unlockedRow, lockedRow, sweptRow, loginRow, timerRow, memoryAt, writtenRow, savedRow, allSavedRow, defaultRow};
 ghost use Rattle.rules.specs.Config.{blockSize, blockCount, memorySize, blockAt, defaults};
 
 // No locks stand.
@@ -21,6 +25,27 @@ pub fn clear_locks(row: &mut [u8])
     ensures { λ _. ⌜ now (row .exit) ≡ unlockedRow (now (row .entry)) ⌝ }
 {
     row[LOCKED] = 0;
+}
+
+// A new lock of VALID-TIME ticks; where 64 stand, the oldest gives way.
+pub fn add_lock(row: &mut [u8], uid: u64)
+    requires { ⌜ (length (now row) ≡ rowWidth) × (getD (now row) countAt 0 ≤ mostLocks) ⌝ }
+    ensures { λ _. ⌜ now (row .exit) ≡ lockedRow uid (now (row .entry)) ⌝ }
+{
+    let n = row[LOCKED] as usize;
+    let valid = octets::get16(row, VALID);
+    let k = lockarea::add(&mut row[LOCKS..store::ROW], n, uid, valid);
+    row[LOCKED] = k as u8;
+}
+
+// Each lock loses a tick, and goes at zero.
+pub fn tick_locks(row: &mut [u8])
+    requires { ⌜ (length (now row) ≡ rowWidth) × (getD (now row) countAt 0 ≤ mostLocks) ⌝ }
+    ensures { λ _. ⌜ now (row .exit) ≡ sweptRow (now (row .entry)) ⌝ }
+{
+    let n = row[LOCKED] as usize;
+    let k = lockarea::tick(&mut row[LOCKS..store::ROW], n);
+    row[LOCKED] = k as u8;
 }
 
 // The timer is four octets.

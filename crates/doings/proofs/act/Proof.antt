@@ -1,7 +1,8 @@
 -- `doings::act` meets its contract: each doing by its function, and what that means. Assumes nothing.
 use native.Mathlib.Omega.{arith}
 use borrow.Author.Needs.{needs}
-use Rattle.doings.proofs.Meaning.{marked-change, due-change, closed-change, cleared-change, system-change, locked-change, ticked-change}
+use Rattle.doings.proofs.Meaning.{marked-change, due-change, closed-change, cleared-change, system-change, ticked-change}
+use Rattle.rows.proofs.Meaning.{locked-change}
 use Rattle.doings.proofs.Doings.{doing-done}
 use Rattle.doings.proofs.act.Statement.{statement}
 use Rattle.doings.proofs.act.Tie as tie

@@ -1,11 +1,11 @@
--- `doings::tick_locks` meets its contract. Assumes nothing.
+-- `rows::tick_locks` meets its contract. Assumes nothing.
 use native.Mathlib.Omega.{arith}
 use borrow.Author.Needs.{needs}
 use Rattle.octets.specs.Parts.{part}
-use Rattle.doings.proofs.Lent.{swept-few, locks-back}
-use Rattle.doings.specs.Row.{sweptRow}
-use Rattle.doings.proofs.tick_locks.Statement.{statement}
-use Rattle.doings.proofs.tick_locks.Tie as tie
+use Rattle.rows.proofs.Lent.{swept-few, locks-back}
+use Rattle.rows.specs.Row.{sweptRow}
+use Rattle.rows.proofs.tick_locks.Statement.{statement}
+use Rattle.rows.proofs.tick_locks.Tie as tie
 
 cast-row : tie.Need-cast-row
 unfolding part

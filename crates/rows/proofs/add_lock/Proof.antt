@@ -1,10 +1,13 @@
--- `doings::add_lock` meets its contract. Assumes nothing.
+-- `rows::add_lock` meets its contract. Assumes nothing.
+use mathlib.Core.Path.{_≡_}
 use native.Mathlib.Omega.{arith}
 use borrow.Author.Needs.{needs}
 use Rattle.octets.specs.Parts.{part}
-use Rattle.doings.proofs.Lent.{locked-few, locked-back}
-use Rattle.doings.proofs.add_lock.Statement.{statement}
-use Rattle.doings.proofs.add_lock.Tie as tie
+use Rattle.octets.specs.Numbers.{u16At}
+use Rattle.store.specs.Rows.{validAt}
+use Rattle.rows.proofs.Lent.{locked-few, locked-back}
+use Rattle.rows.proofs.add_lock.Statement.{statement}
+use Rattle.rows.proofs.add_lock.Tie as tie
 
 cast-row : tie.Need-cast-row
 unfolding part
@@ -14,13 +17,16 @@ cast-row c =
     let z = g .before .before .before .before in
     record { fits = omega (arith, locked-few (z .args .row .now) (z .pre .1) (z .args .uid) (g .get16 .result)) }
 
+valid-is : (g : tie.After-get16) → g .get16 .result ≡ u16At validAt (g .before .before .before .before .args .row .now)
+valid-is g = g .get16 .ensures
+
 returns : tie.Need-returns
 unfolding part
 returns c =
     let k = c .before .before in
     let g = k .before .before in
     let z = g .before .before .before .before in
-    locked-back (z .args .row .now) (z .args .uid) (g .get16 .result) _ _ (z .pre .0) (z .pre .1) (g .get16 .ensures) (k .add .ensures .1) (k .add .ensures .0)
+    locked-back (z .args .row .now) (z .args .uid) (g .get16 .result) _ _ (z .pre .0) (z .pre .1) (valid-is g) (k .add .ensures .1) (k .add .ensures .0)
 
 pub add-lock-spec : {M : Type 1} → statement M
 add-lock-spec =

@@ -1,4 +1,4 @@
--- The locks of a row, lent to the crate `locks`: as many as fit, and the row with those that came back. Assumes nothing.
+-- The locks of a row, lent to the crate `lockarea`: as many as fit, and the row with those that came back. Assumes nothing.
 use Prim.Native.Nat.{_*_, ℕ, _≤_}
 use mathlib.Core.Path.{_≡_}
 use mathlib.Core.List.{List, _++_}
@@ -15,7 +15,7 @@ use Rattle.locks.proofs.Sweeps.{swept-length}
 use Rattle.locks.proofs.Sound.{added-few}
 use Rattle.store.specs.Layout.{rowWidth}
 use Rattle.store.specs.Rows.{countAt, locksAt, validAt}
-use Rattle.doings.specs.Row.{locksOf, locksRow, lockedRow}
+use Rattle.rows.specs.Row.{locksOf, locksRow, lockedRow}
 
 module _ (row : List ℕ) (few : getD row countAt 0 ≤ mostLocks) where
   pub swept-few : length (sweptOf (locksOf row)) ≤ mostLocks
