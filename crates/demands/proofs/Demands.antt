@@ -56,7 +56,7 @@ papers-answers ds s h = let l = lived ds s h in (l .still, l .says, l .gave)
 -- box and reader
 pub read-each-other : (q : Request) (buf : List ℕ) (n : ℕ) (buf′ : List ℕ) → length (q .bytes) ≡ blockSize → Requested q buf (Octets n) buf′
     → (s out : List ℕ) → sound s ≡ true → replyRoom ≤ length out
-    → (a : Answer) (s′ out′ : List ℕ) → Called (frame (take n buf′) (length out)) s out a s′ out′ → ReadBack q s a out′
+    → (a : Answer) (s′ out′ : List ℕ) → Called (frame (take n buf′) (length out)) s out a s′ out′ → ReadBack q s a s′ out′
 read-each-other q buf n buf′ size made s out still room a s′ out′ called =
     host-hears q (made-carriable q buf n buf′ made size) s still out room a s′ out′
     (subst (λ (f : List ℕ). Called (frame f (length out)) s out a s′ out′) (made-frame q buf n buf′ made) called)

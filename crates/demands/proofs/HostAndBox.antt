@@ -57,18 +57,29 @@ module _ (q : Request) (c : Carriable q) (s : List ℕ) (still : sound s ≡ tru
     unfolding stepOn placed
     steps = rw (still, box-steps q (c .bytes) (view s) (length out) (c .desk) room)
 
+    next : stepOn s (frame (requestFrame q) (length out)) .box ≡ set (view s) (q .desk) (ruledBy q s .desk)
+    unfolding stepOn placed
+    next = rw (still, box-steps q (c .bytes) (view s) (length out) (c .desk) room)
+
     front : (out′ : List ℕ) → out′ ≡ put 0 (replyTo q s) out → taken q s out′ ≡ replyTo q s
     front out′ e =
         ap (take (length (replyTo q s))) (e ∙ put-front (replyTo q s) out (omega (arith, short)))
         ∙ take-at (replyTo q s) _ (length (replyTo q s)) refl
 
     -- what the maker made is answered, and the reply in the output is read back as it was sent
-    pub host-hears : (a : Answer) (s′ out′ : List ℕ) → Called (frame (requestFrame q) (length out)) s out a s′ out′ → ReadBack q s a out′
+    pub host-hears : (a : Answer) (s′ out′ : List ℕ) → Called (frame (requestFrame q) (length out)) s out a s′ out′ → ReadBack q s a s′ out′
     host-hears a s′ out′ called =
         let e : Ended (reply (replyTo q s)) (stepOn s (frame (requestFrame q) (length out)) .box) s out a s′ out′ = rw steps at (called .ended) in
         let there = front out′ (e .1) in
         let back = reply-read q (deskAt (view s) (q .desk)) legal (c .bytes) (c .desk) (c .fields) in
-        record { answer-is = e .0; there = there; read-is = rw there (back .0); data-is = rw there (back .1) }
+        record {
+          answer-is = e .0;
+          there = there;
+          read-is = rw there (back .0);
+          data-is = rw there (back .1);
+          still-sound = e .2 .0;
+          says = e .2 .1 ∙ next;
+        }
 
 -- ---- what the maker made is the request's frame, and one that a box answers
 

@@ -3,7 +3,7 @@ use Prim.Native.Nat.{ℕ, _+_, _<_}
 use mathlib.Core.Path.{_≡_}
 use mathlib.Core.Bool.{true}
 use mathlib.Core.List.{List, _∷_}
-use lib.ListN.{length, take}
+use lib.ListN.{length, take, set}
 use Rattle.table.specs.Entries.{desks}
 use Rattle.rules.specs.Config.{blockSize}
 use Rattle.octets.specs.Parts.{part}
@@ -44,12 +44,15 @@ taken q s out = take (length (replyTo q s)) out
 abbrev pub toldTo : Request → List ℕ → Told
 toldTo q s = let r = ruledBy q s in record { status = r .status; start = shapeOf (q .kind) .lead + 3; len = length (r .sent) }
 
--- the box replied; what stands at the start of the output is that reply; the host accepts it and reads status and data as they were sent
-pub record ReadBack (q : Request) (s : List ℕ) (a : Answer) (out′ : List ℕ) : Type 0 where
+-- the box replied; what stands at the start of the output is that reply; the host accepts it and reads status and data as they were sent;
+-- and the store says the desk that the request's rule gives, and the other seven as before
+pub record ReadBack (q : Request) (s : List ℕ) (a : Answer) (s′ out′ : List ℕ) : Type 0 where
   pub answer-is : a ≡ Reply (length (replyTo q s))
   pub there : taken q s out′ ≡ replyTo q s
   pub read-is : readAs q (taken q s out′) ≡ Sound (toldTo q s)
   pub data-is : part (toldTo q s .start) (toldTo q s .len) (taken q s out′) ≡ ruledBy q s .sent
+  pub still-sound : sound s′ ≡ true
+  pub says : view s′ ≡ set (view s) (q .desk) (ruledBy q s .desk)
 
 -- a sound store that makes the box answer the request with this status and data length
 pub record Gives (q : Request) (status len : ℕ) : Type 0 where

@@ -50,9 +50,9 @@ pub fn lock_of(s: &[u8], d: usize, uid: u64) -> Found
     requires { ⌜ (sound (now s) ≡ true) × (d < desks) ⌝ }
     ensures { λ r. ⌜ r ≡ foundIn uid (kept d (now (s .entry)) .locks) ⌝ }
 {
-    let at = store::row_at(s, d);
-    let n = s[at + store::LOCKED] as usize;
-    lockarea::lookup_in(&s[at + store::LOCKS..at + store::ROW], n, uid)
+    let row = store::row_at(s, d);
+    let n = s[row + store::LOCKED] as usize;
+    lockarea::lookup_in(&s[row + store::LOCKS..row + store::ROW], n, uid)
 }
 
 // Does this to the row of the desk, which is found and lent here.

@@ -1,14 +1,18 @@
--- Slips that have been made, each as a short day at the box with the answers that the paper gives. Assumes nothing.
+-- Slips that have been made, each as a short day at the box with the answers that the paper gives; slip 4 also of every desk. Assumes nothing.
 use mathlib.Core.Path.{_≡_, refl}
 use Prim.Native.Nat.{ℕ}
+use mathlib.Core.Bool.{true}
 use mathlib.Core.List.{List, [], _∷_, _++_}
 use lib.ListN.{replicate}
 use Rattle.frame.specs.declared.Kind.the-variants.{Standard}
 use Rattle.frame.specs.Shape.{replyRoom}
 use Rattle.frame.specs.Sealed.{frameOf}
 use Rattle.octets.specs.Numbers.{octets}
+use Rattle.locks.specs.Locks.{locked}
 use Rattle.rules.specs.declared.Seen.the-variants.{Ignored, Recorded}
-use Rattle.rules.specs.Box.{Event, frame, sighting, tick, Answer, reply, seen, ok, freshBox, run}
+use Rattle.rules.specs.Desk.{Desk}
+use Rattle.rules.specs.Sighting.{seenAs, afterSeen}
+use Rattle.rules.specs.Box.{Event, frame, sighting, tick, Answer, reply, seen, ok, sighted, freshBox, run}
 use Rattle.rules.proofs.Computed.{computed}
 
 -- a request to desk 0 in a standard frame, with room for the reply; and the reply with its status and data
@@ -46,6 +50,11 @@ pub locked-sets-no-mark :
     ≡ seen Recorded ∷ seen Ignored ∷ told 0x22 0x00 (octets 2 1 ++ octets 8 7 ++ zeros 4 ++ (1 ∷ [])) ∷ []
 unfolding computed
 locked-sets-no-mark = refl
+
+-- a sighting of a locked tag changes nothing, and is ignored, also where 64 records are held: rule 1 comes before rule 2
+pub locked-changes-nothing : (uid mask : ℕ) (d : Desk) → locked uid (d .locks) ≡ true → sighted uid mask d ≡ record { answer = seen Ignored; desk = d }
+unfolding sighted seenAs afterSeen
+locked-changes-nothing uid mask d e = rw e
 
 -- 0x32 removes what 0x22 sent, and not what came after it; a further 0x32 removes none
 pub removes-what-was-sent :

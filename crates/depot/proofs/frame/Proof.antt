@@ -1,8 +1,11 @@
 -- `depot::frame` meets its contract: refusals 1 to 4 in rising number, then the desk. Assumes nothing.
+use Prim.Native.Nat.{_≤_, _<_}
 use mathlib.Core.Path.{_≡_, sym, _∙_}
 use mathlib.Core.Bool.{true}
+use native.Mathlib.Omega.{arith}
 use lib.ListN.{length}
 use Rattle.octets.proofs.Tests.{passed, failed}
+use Rattle.frame.specs.Shape.{replyRoom}
 use Rattle.store.specs.Sound.{sound}
 use Rattle.rules.proofs.Refusals.{small-buffer, judge-refused}
 use Rattle.depot.proofs.Calls.{unsound, frame-refused}
@@ -14,18 +17,25 @@ use Rattle.depot.proofs.frame.Tie as tie
 good : (c : tie.Else1) → sound (c .before .before .before .before .before .before .args .store .now) ≡ true
 good c = passed (c .before .test .ensures) (c .if1 .left)
 
+-- and so did that of the room, or it did not
+small : (c : tie.Then2) → length (c .before .before .before .before .before .before .before .args .out .now) < replyRoom
+small c = omega (arith, c .if2 .taken)
+
+roomy : (c : tie.Else2) → replyRoom ≤ length (c .before .before .before .before .before .before .before .args .out .now)
+roomy c = omega (arith, c .if2 .left)
+
 returns-2 : tie.Need-returns-2
 returns-2 c =
     let e = c .before in
     let a = e .before .before .before .before .before .before .args in
-    frame-refused (a .frame .now) (length (a .out .now)) _ (a .store .now) (a .out .now) (good e) (small-buffer (a .frame .now) (length (a .out .now)) (c .if2 .taken))
+    frame-refused (a .frame .now) (length (a .out .now)) _ (a .store .now) (a .out .now) (good e) (small-buffer (a .frame .now) (length (a .out .now)) (small c))
 
 served-requires : tie.Need-served-requires
 served-requires c κs =
     let f = c .before .before .before in
     let j = f .before .before in
     let n = j .before in
-    (good (n .before), sym (j .judge .ensures) ∙ f .f .given .1, n .if2 .left)
+    (good (n .before), sym (j .judge .ensures) ∙ f .f .given .1, roomy n)
 
 returns-3 : tie.Need-returns-3
 returns-3 c =
@@ -34,7 +44,7 @@ returns-3 c =
     let n = j .before in
     let a = n .before .before .before .before .before .before .before .args in
     frame-refused (a .frame .now) (length (a .out .now)) _ (a .store .now) (a .out .now) (good (n .before))
-    (judge-refused (a .frame .now) (length (a .out .now)) (n .if2 .left) (r .r .given .0 .0) (sym (j .judge .ensures) ∙ r .r .given .1))
+    (judge-refused (a .frame .now) (length (a .out .now)) (roomy n) (r .r .given .0 .0) (sym (j .judge .ensures) ∙ r .r .given .1))
 
 pub frame-spec : {M : Type 1} → statement M
 frame-spec =
