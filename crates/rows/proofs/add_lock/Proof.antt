@@ -18,7 +18,7 @@ cast-row c =
     record { fits = omega (arith, locked-few (z .args .row .now) (z .pre .1) (z .args .uid) (g .get16 .result)) }
 
 valid-is : (g : tie.After-get16) → g .get16 .result ≡ u16At validAt (g .before .before .before .before .args .row .now)
-valid-is g = g .get16 .ensures
+valid-is g = rw (g .get16 .ensures)
 
 returns : tie.Need-returns
 unfolding part

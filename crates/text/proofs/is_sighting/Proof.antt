@@ -20,11 +20,15 @@ returns-2 : tie.Need-returns-2
 unfolding isSighting
 returns-2 c = rw (eq-eqb _ 20 (c .before .before .if1 .left), ne-eqb _ 0x73 (c .if2 .taken))
 
+-- what the test of the second octet says
+decimal-is : (c : tie.After-between) → c .between .result ≡ decimal (getD (c .before .before .before .before .before .before .args .s .now) 1 0)
+decimal-is c = rw (c .between .ensures)
+
 returns-3 : tie.Need-returns-3
 unfolding isSighting
 returns-3 c =
     let two = c .before .before .before in
-    let none : decimal (getD (two .before .before .before .before .args .s .now) 1 0) ≡ false = failed (c .before .between .ensures) (c .if3 .taken) in
+    let none : decimal (getD (two .before .before .before .before .args .s .now) 1 0) ≡ false = failed (decimal-is (c .before)) (c .if3 .taken) in
     rw (eq-eqb _ 20 (two .before .before .if1 .left), eq-eqb _ 0x73 (two .if2 .left), none)
 
 returns-4 : tie.Need-returns-4
@@ -33,7 +37,7 @@ returns-4 c =
     let three = c .before .before in
     let two = three .before .before .before in
     let s = two .before .before .before .before .args .s .now in
-    rw (eq-eqb _ 20 (two .before .before .if1 .left), eq-eqb _ 0x73 (two .if2 .left), passed (three .before .between .ensures) (three .if3 .left))
+    rw (eq-eqb _ 20 (two .before .before .if1 .left), eq-eqb _ 0x73 (two .if2 .left), passed (decimal-is (three .before)) (three .if3 .left))
     (c .all-hex .ensures ∙ ap (allOf isHex) (rest-of 2 s))
 
 pub is-sighting-spec : {M : Type 1} → statement M
