@@ -77,7 +77,7 @@ module _ (q : Request) (c : Carriable q) (s : List ℕ) (still : sound s ≡ tru
           there = there;
           read-is = rw there (back .0);
           data-is = rw there (back .1);
-          still-sound = e .2 .0;
+          still = e .2 .0;
           says = e .2 .1 ∙ next;
         }
 

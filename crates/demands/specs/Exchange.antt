@@ -51,7 +51,7 @@ pub record ReadBack (q : Request) (s : List ℕ) (a : Answer) (s′ out′ : Lis
   pub there : taken q s out′ ≡ replyTo q s
   pub read-is : readAs q (taken q s out′) ≡ Sound (toldTo q s)
   pub data-is : part (toldTo q s .start) (toldTo q s .len) (taken q s out′) ≡ ruledBy q s .sent
-  pub still-sound : sound s′ ≡ true
+  pub still : sound s′ ≡ true
   pub says : view s′ ≡ set (view s) (q .desk) (ruledBy q s .desk)
 
 -- a sound store that makes the box answer the request with this status and data length

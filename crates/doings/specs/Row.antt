@@ -19,7 +19,7 @@ dueRow n row = one dueAt n row
 unfoldable pub closedRow : ℕ → List ℕ → List ℕ
 closedRow start row = one startAt start (dueRow 0 (one markAt 0 row))
 
--- ---- a tick of the timer, and of the locks first
+-- ---- a tick: of the locks, then of the timer
 
 unfoldable pub steppedRow : List ℕ → List ℕ
 steppedRow row = timerRow (timerOctets (stepOf (timerFrom (part timerAt 4 row)))) row
