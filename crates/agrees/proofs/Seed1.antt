@@ -2,7 +2,6 @@
 use mathlib.Core.Path.{_≡_, refl}
 use mathlib.Core.List.{List, [], _∷_}
 use Rattle.frame.specs.Shape.{replyRoom}
-use Rattle.frame.specs.declared.Refusal.the-variants.{WrongLength, WrongCheck, NoDesk, OutOfRange}
 use Rattle.rules.specs.declared.Seen.the-variants.{Ignored, Lost, Recorded}
 use Rattle.rules.specs.Box.{Event, frame, sighting, tick, Answer, refused, reply, seen, ok, freshBox, run}
 use Rattle.rules.proofs.Computed.{computed}
@@ -272,7 +271,7 @@ answers =
     reply (2 ∷ 0 ∷ 22 ∷ 6 ∷ 128 ∷ 0 ∷ 0 ∷ 0 ∷ 0 ∷ 0 ∷ 0 ∷ 0 ∷ 0 ∷ 0 ∷ 0 ∷ 0 ∷ 0 ∷ 0 ∷ 0 ∷ 0 ∷ 26 ∷ 27 ∷ []) ∷
     reply (2 ∷ 0 ∷ 22 ∷ 6 ∷ 128 ∷ 0 ∷ 0 ∷ 0 ∷ 0 ∷ 0 ∷ 0 ∷ 0 ∷ 0 ∷ 0 ∷ 0 ∷ 0 ∷ 0 ∷ 0 ∷ 0 ∷ 0 ∷ 26 ∷ 27 ∷ []) ∷
     reply (20 ∷ 6 ∷ 128 ∷ 0 ∷ 0 ∷ 0 ∷ 0 ∷ 0 ∷ 0 ∷ 0 ∷ 0 ∷ 0 ∷ 0 ∷ 0 ∷ 0 ∷ 0 ∷ 0 ∷ 0 ∷ 181 ∷ 156 ∷ []) ∷
-    refused WrongLength ∷
+    refused 3 ∷
     seen Recorded ∷
     seen Recorded ∷
     seen Recorded ∷
@@ -289,8 +288,8 @@ answers =
     seen Ignored ∷
     seen Ignored ∷
     ok ∷
-    refused WrongLength ∷
-    refused NoDesk ∷
+    refused 3 ∷
+    refused 5 ∷
     seen Recorded ∷
     seen Recorded ∷
     seen Recorded ∷
@@ -306,7 +305,7 @@ answers =
     reply (2 ∷ 0 ∷ 8 ∷ 3 ∷ 133 ∷ 17 ∷ 230 ∷ 249 ∷ []) ∷
     reply (2 ∷ 0 ∷ 8 ∷ 0 ∷ 34 ∷ 129 ∷ 252 ∷ 96 ∷ []) ∷
     reply (2 ∷ 0 ∷ 8 ∷ 7 ∷ 160 ∷ 0 ∷ 4 ∷ 198 ∷ []) ∷
-    refused WrongLength ∷
+    refused 3 ∷
     reply (2 ∷ 0 ∷ 8 ∷ 4 ∷ 160 ∷ 0 ∷ 96 ∷ 41 ∷ []) ∷
     reply (2 ∷ 0 ∷ 8 ∷ 4 ∷ 129 ∷ 0 ∷ 139 ∷ 19 ∷ []) ∷
     reply (2 ∷ 0 ∷ 22 ∷ 4 ∷ 128 ∷ 0 ∷ 0 ∷ 2 ∷ 99 ∷ 128 ∷ 52 ∷ 67 ∷ 245 ∷ 190 ∷ 75 ∷ 227 ∷ 210 ∷ 160 ∷ 95 ∷ 3 ∷ 75 ∷ 16 ∷ []) ∷
@@ -316,7 +315,7 @@ answers =
     reply (2 ∷ 0 ∷ 22 ∷ 4 ∷ 128 ∷ 0 ∷ 0 ∷ 2 ∷ 99 ∷ 128 ∷ 52 ∷ 67 ∷ 245 ∷ 190 ∷ 75 ∷ 227 ∷ 210 ∷ 160 ∷ 95 ∷ 3 ∷ 75 ∷ 16 ∷ []) ∷
     reply (6 ∷ 4 ∷ 129 ∷ 0 ∷ 206 ∷ 190 ∷ []) ∷
     reply (20 ∷ 4 ∷ 128 ∷ 0 ∷ 0 ∷ 8 ∷ 109 ∷ 2 ∷ 42 ∷ 165 ∷ 107 ∷ 191 ∷ 244 ∷ 51 ∷ 176 ∷ 247 ∷ 17 ∷ 19 ∷ 248 ∷ 251 ∷ []) ∷
-    refused WrongCheck ∷
+    refused 4 ∷
     reply (12 ∷ 2 ∷ 49 ∷ 0 ∷ 0 ∷ 64 ∷ 0 ∷ 0 ∷ 0 ∷ 2 ∷ 207 ∷ 80 ∷ []) ∷
     reply (10 ∷ 2 ∷ 134 ∷ 0 ∷ 0 ∷ 0 ∷ 23 ∷ 112 ∷ 162 ∷ 219 ∷ []) ∷
     reply (2 ∷ 0 ∷ 36 ∷ 2 ∷ 34 ∷ 0 ∷ 0 ∷ 2 ∷ 224 ∷ 7 ∷ 1 ∷ 0 ∷ 1 ∷ 100 ∷ 94 ∷ 55 ∷ 0 ∷ 0 ∷ 22 ∷ 68 ∷ 128 ∷ 224 ∷ 7 ∷ 0 ∷ 0 ∷ 0 ∷ 100 ∷ 94 ∷ 55 ∷ 0 ∷ 0 ∷ 23 ∷ 12 ∷ 1 ∷ 158 ∷ 55 ∷ []) ∷
@@ -368,7 +367,7 @@ answers =
     reply (20 ∷ 5 ∷ 128 ∷ 0 ∷ 0 ∷ 0 ∷ 0 ∷ 0 ∷ 0 ∷ 0 ∷ 0 ∷ 0 ∷ 0 ∷ 0 ∷ 0 ∷ 0 ∷ 0 ∷ 0 ∷ 164 ∷ 172 ∷ []) ∷
     seen Ignored ∷
     ok ∷
-    refused WrongLength ∷
+    refused 3 ∷
     []
 
 pub agree : run freshBox events ≡ answers

@@ -2,7 +2,6 @@
 use mathlib.Core.Path.{_≡_, refl}
 use mathlib.Core.List.{List, [], _∷_}
 use Rattle.frame.specs.Shape.{replyRoom}
-use Rattle.frame.specs.declared.Refusal.the-variants.{WrongLength, WrongCheck, NoDesk, OutOfRange}
 use Rattle.rules.specs.declared.Seen.the-variants.{Ignored, Lost, Recorded}
 use Rattle.rules.specs.Box.{Event, frame, sighting, tick, Answer, refused, reply, seen, ok, freshBox, run}
 use Rattle.rules.proofs.Computed.{computed}
@@ -180,8 +179,8 @@ answers =
     reply (12 ∷ 4 ∷ 49 ∷ 0 ∷ 0 ∷ 64 ∷ 0 ∷ 5 ∷ 0 ∷ 0 ∷ 127 ∷ 238 ∷ []) ∷
     reply (2 ∷ 0 ∷ 14 ∷ 4 ∷ 49 ∷ 0 ∷ 0 ∷ 64 ∷ 0 ∷ 5 ∷ 0 ∷ 0 ∷ 44 ∷ 183 ∷ []) ∷
     reply (2 ∷ 0 ∷ 8 ∷ 4 ∷ 34 ∷ 146 ∷ 135 ∷ 33 ∷ []) ∷
-    refused WrongLength ∷
-    refused WrongLength ∷
+    refused 3 ∷
+    refused 3 ∷
     reply (10 ∷ 7 ∷ 134 ∷ 0 ∷ 0 ∷ 0 ∷ 0 ∷ 100 ∷ 61 ∷ 165 ∷ []) ∷
     seen Recorded ∷
     reply (6 ∷ 0 ∷ 133 ∷ 17 ∷ 199 ∷ 187 ∷ []) ∷
@@ -245,16 +244,16 @@ answers =
     reply (2 ∷ 0 ∷ 8 ∷ 5 ∷ 34 ∷ 17 ∷ 200 ∷ 205 ∷ []) ∷
     reply (6 ∷ 5 ∷ 130 ∷ 129 ∷ 251 ∷ 91 ∷ []) ∷
     reply (2 ∷ 0 ∷ 8 ∷ 3 ∷ 82 ∷ 0 ∷ 221 ∷ 234 ∷ []) ∷
-    refused WrongLength ∷
-    refused WrongLength ∷
-    refused WrongCheck ∷
-    refused WrongLength ∷
-    refused WrongLength ∷
+    refused 3 ∷
+    refused 3 ∷
+    refused 4 ∷
+    refused 3 ∷
+    refused 3 ∷
     reply (2 ∷ 0 ∷ 8 ∷ 2 ∷ 49 ∷ 129 ∷ 189 ∷ 106 ∷ []) ∷
     reply (2 ∷ 0 ∷ 14 ∷ 1 ∷ 49 ∷ 0 ∷ 0 ∷ 64 ∷ 0 ∷ 0 ∷ 0 ∷ 0 ∷ 137 ∷ 252 ∷ []) ∷
     reply (10 ∷ 1 ∷ 134 ∷ 0 ∷ 0 ∷ 0 ∷ 8 ∷ 152 ∷ 211 ∷ 14 ∷ []) ∷
     reply (2 ∷ 0 ∷ 8 ∷ 1 ∷ 34 ∷ 17 ∷ 169 ∷ 174 ∷ []) ∷
-    refused WrongLength ∷
+    refused 3 ∷
     reply (2 ∷ 0 ∷ 8 ∷ 6 ∷ 162 ∷ 128 ∷ 96 ∷ 43 ∷ []) ∷
     ok ∷
     ok ∷
@@ -313,8 +312,8 @@ answers =
     ok ∷
     ok ∷
     reply (10 ∷ 4 ∷ 134 ∷ 0 ∷ 0 ∷ 0 ∷ 30 ∷ 120 ∷ 63 ∷ 216 ∷ []) ∷
-    refused WrongLength ∷
-    refused WrongLength ∷
+    refused 3 ∷
+    refused 3 ∷
     []
 
 pub agree : run freshBox events ≡ answers

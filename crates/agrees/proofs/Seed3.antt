@@ -2,7 +2,6 @@
 use mathlib.Core.Path.{_≡_, refl}
 use mathlib.Core.List.{List, [], _∷_}
 use Rattle.frame.specs.Shape.{replyRoom}
-use Rattle.frame.specs.declared.Refusal.the-variants.{WrongLength, WrongCheck, NoDesk, OutOfRange}
 use Rattle.rules.specs.declared.Seen.the-variants.{Ignored, Lost, Recorded}
 use Rattle.rules.specs.Box.{Event, frame, sighting, tick, Answer, refused, reply, seen, ok, freshBox, run}
 use Rattle.rules.proofs.Computed.{computed}
@@ -215,7 +214,7 @@ answers =
     reply (12 ∷ 1 ∷ 49 ∷ 0 ∷ 0 ∷ 64 ∷ 0 ∷ 2 ∷ 0 ∷ 5 ∷ 207 ∷ 71 ∷ []) ∷
     reply (10 ∷ 1 ∷ 134 ∷ 0 ∷ 0 ∷ 0 ∷ 0 ∷ 100 ∷ 240 ∷ 253 ∷ []) ∷
     reply (2 ∷ 0 ∷ 75 ∷ 1 ∷ 34 ∷ 0 ∷ 0 ∷ 5 ∷ 224 ∷ 7 ∷ 0 ∷ 1 ∷ 1 ∷ 100 ∷ 94 ∷ 55 ∷ 0 ∷ 0 ∷ 0 ∷ 0 ∷ 255 ∷ 224 ∷ 7 ∷ 0 ∷ 0 ∷ 0 ∷ 100 ∷ 94 ∷ 55 ∷ 0 ∷ 0 ∷ 0 ∷ 0 ∷ 255 ∷ 224 ∷ 7 ∷ 0 ∷ 0 ∷ 1 ∷ 101 ∷ 94 ∷ 55 ∷ 0 ∷ 0 ∷ 0 ∷ 100 ∷ 2 ∷ 224 ∷ 7 ∷ 0 ∷ 0 ∷ 1 ∷ 100 ∷ 95 ∷ 55 ∷ 0 ∷ 0 ∷ 0 ∷ 100 ∷ 63 ∷ 224 ∷ 7 ∷ 0 ∷ 0 ∷ 1 ∷ 100 ∷ 94 ∷ 54 ∷ 0 ∷ 0 ∷ 0 ∷ 100 ∷ 255 ∷ 73 ∷ 129 ∷ []) ∷
-    refused WrongLength ∷
+    refused 3 ∷
     seen Recorded ∷
     seen Recorded ∷
     seen Recorded ∷
@@ -244,7 +243,7 @@ answers =
     reply (2 ∷ 0 ∷ 8 ∷ 0 ∷ 50 ∷ 0 ∷ 236 ∷ 96 ∷ []) ∷
     reply (12 ∷ 0 ∷ 49 ∷ 0 ∷ 0 ∷ 64 ∷ 0 ∷ 19 ∷ 0 ∷ 1 ∷ 95 ∷ 147 ∷ []) ∷
     reply (2 ∷ 0 ∷ 23 ∷ 0 ∷ 34 ∷ 0 ∷ 0 ∷ 1 ∷ 224 ∷ 7 ∷ 0 ∷ 4 ∷ 1 ∷ 100 ∷ 94 ∷ 55 ∷ 0 ∷ 0 ∷ 0 ∷ 100 ∷ 255 ∷ 16 ∷ 174 ∷ []) ∷
-    refused WrongLength ∷
+    refused 3 ∷
     reply (10 ∷ 0 ∷ 134 ∷ 0 ∷ 0 ∷ 0 ∷ 0 ∷ 100 ∷ 37 ∷ 98 ∷ []) ∷
     reply (6 ∷ 7 ∷ 133 ∷ 17 ∷ 194 ∷ 55 ∷ []) ∷
     reply (2 ∷ 0 ∷ 8 ∷ 1 ∷ 160 ∷ 0 ∷ 221 ∷ 16 ∷ []) ∷

@@ -13,11 +13,8 @@ use Rattle.octets.proofs.Puts.{part-put-same}
 use Rattle.frame.specs.declared.Kind.{Kind}
 use Rattle.frame.specs.declared.Kind.the-variants.{Standard, Advanced}
 use Rattle.frame.specs.declared.Way.the-variants.{Request}
-use Rattle.frame.specs.declared.Refusal.{Refusal}
-use Rattle.frame.specs.declared.Refusal.the-variants.{WrongLength}
-use Rattle.frame.specs.declared.Judged.the-variants.{Refused}
 use Rattle.frame.specs.Shape.{overhead, replyRoom}
-use Rattle.frame.specs.Judged.{kindOf, judged}
+use Rattle.frame.specs.Judged.{refused, kindOf, judged}
 use Rattle.frame.proofs.Verdict.{long}
 use Rattle.rules.specs.Box.{frame, Step, frameRefusals, unlessRefused, step}
 use Rattle.rules.proofs.Refusals.{small-buffer, judge-refused}
@@ -31,20 +28,20 @@ short-overhead : (k : Kind) → overhead Request k ≤ replyRoom
 short-overhead Standard = omega arith
 short-overhead Advanced = omega arith
 
-pub too-long : (f : List ℕ) → replyRoom < length f → judged Request f ≡ Refused WrongLength
+pub too-long : (f : List ℕ) → replyRoom < length f → judged Request f ≡ refused 3
 too-long f h =
     sym (long Request f (kindOf f) refl (omega (arith, short-overhead (kindOf f))) (omega (arith, longest-fits (kindOf f))))
 
 module _ (f g : List ℕ) (room : ℕ) (s : List ℕ) where
-  refused-alike : (r : Refusal) → first (frameRefusals f room) ≡ some r → first (frameRefusals g room) ≡ some r → stepOn s (frame f room) ≡ stepOn s (frame g room)
+  refused-alike : (n : ℕ) → first (frameRefusals f room) ≡ some n → first (frameRefusals g room) ≡ some n → stepOn s (frame f room) ≡ stepOn s (frame g room)
   unfolding stepOn step unlessRefused
-  refused-alike r p q = rw (p, q)
+  refused-alike n p q = rw (p, q)
 
   long-alike : replyRoom < length f → replyRoom < length g → stepOn s (frame f room) ≡ stepOn s (frame g room)
   long-alike h l =
       elim (decLt room replyRoom) [
-        | yes n ↦ refused-alike _ (small-buffer f room n) (small-buffer g room n)
-        | no n ↦ refused-alike WrongLength (judge-refused f room (omega arith) WrongLength (too-long f h)) (judge-refused g room (omega arith) WrongLength (too-long g l))
+        | yes n ↦ refused-alike 2 (small-buffer f room n) (small-buffer g room n)
+        | no n ↦ refused-alike 3 (judge-refused f room (omega arith) 3 (too-long f h)) (judge-refused g room (omega arith) 3 (too-long g l))
       ]
 
   module _ (out : List ℕ) (a : Answer) (s′ out′ : List ℕ) where

@@ -4,10 +4,9 @@ use mathlib.Core.Path.{_≡_, refl}
 use mathlib.Core.Bool.{Bool, true, false, cond, and-false}
 use mathlib.Core.List.{List, [], _∷_, _++_}
 use mathlib.Core.Logic.{_⊎_, inl, inr}
-use mathlib.Core.Option.{some}
+use mathlib.Core.Option.{Option, some}
 use borrow.Author.Tests.{le-ltb}
 use Rattle.octets.specs.Tests.{first}
-use Rattle.frame.specs.declared.Refusal.the-variants.{NoDesk, OutOfRange, NotTheReply}
 use Rattle.frame.specs.declared.Way.the-variants.{Reply}
 use Rattle.frame.specs.Judged.{faults}
 use Rattle.rules.specs.declared.control.Known.the-variants.{Unknown}
@@ -36,14 +35,14 @@ unfolding octetOf known knownIn commands
 no-control control h = rw (le-ltb control 256 h)
 
 module _ (q : Request) (e : q .ask ≡ noAsk) where
-  pub not-made : (room : ℕ) → first (makerRefusals q room) ≡ some (cond (noDesk (q .desk)) NoDesk OutOfRange)
+  pub not-made : (room : ℕ) → first (makerRefusals q room) ≡ some (cond {A = ℕ} (noDesk (q .desk)) 5 6)
   unfolding makerRefusals inRange first
   not-made room = rw e (go (noDesk (q .desk)))
     where
-      go : (b : Bool) → cond b (some NoDesk) (some OutOfRange) ≡ some (cond b NoDesk OutOfRange)
+      go : (b : Bool) → cond {A = Option ℕ} b (some 5) (some 6) ≡ some (cond {A = ℕ} b 5 6)
       go true = refl
       go false = refl
 
-  pub not-read : (s : List ℕ) → first (readerRefusals q s) ≡ first (faults Reply s ++ ((NotTheReply, true) ∷ []))
+  pub not-read : (s : List ℕ) → first (readerRefusals q s) ≡ first (faults Reply s ++ ((8, true) ∷ []))
   unfolding readerRefusals answersTo possible
   not-read s = rw e (simp and-false)

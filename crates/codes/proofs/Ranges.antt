@@ -19,7 +19,7 @@ use Rattle.depot.specs.declared.Answer.{Answer}
 use Rattle.depot.proofs.Short.{Short}
 use Rattle.rules.specs.declared.Written.{Written}
 use Rattle.reader.specs.declared.Told.{Told}
-use Rattle.reader.specs.declared.Reading.the-variants.{Sound}
+use Rattle.reader.specs.Reader.{Finding}
 use Rattle.codes.specs.Codes.{Range, In, done, refused, sighted, ignored, told, written, rangeCount, rangeAt, codeOf, writtenCode, readCode}
 use Rattle.codes.proofs.Told.{Small}
 
@@ -90,5 +90,5 @@ answer-in (Answer.Reply n) h = (omega arith, omega arith)
 pub written-in : (n : ℕ) → n < 2 ^ 63 → In written (writtenCode (Written.Octets n))
 written-in n h = (omega arith, omega arith)
 
-pub told-in : (t : Told) → Small t → In told (readCode (Sound t))
+pub told-in : (t : Told) → Small t → In told (readCode (Finding.found t))
 told-in t h = (omega arith, omega (arith, h .status, h .start, h .len))

@@ -10,15 +10,12 @@ use Rattle.octets.specs.Tests.{first}
 use Rattle.octets.specs.Numbers.{Octets}
 use Rattle.octets.proofs.Tests.{none-head, none-tail}
 use Rattle.frame.specs.declared.Way.the-variants.{Reply}
-use Rattle.frame.specs.declared.Refusal.{Refusal}
-use Rattle.frame.specs.declared.Refusal.the-variants.{WrongLength}
 use Rattle.frame.specs.Shape.{shapeOf, replyRoom}
 use Rattle.frame.specs.Judged.{kindOf, faults, partsOf}
 use Rattle.depot.proofs.Replying.{longest-fits}
 use Rattle.requests.specs.declared.Request.{Request}
 use Rattle.reader.specs.declared.Told.{Told}
-use Rattle.reader.specs.declared.Reading.the-variants.{Sound}
-use Rattle.reader.specs.Reader.{reading, toldOf, readerRefusals, readAs}
+use Rattle.reader.specs.Reader.{found, finding, toldOf, readerRefusals, readAs}
 use Rattle.codes.proofs.Fits.{lead-small}
 
 pub record Small (t : Told) : Type 0 where
@@ -30,16 +27,16 @@ module _ (q : Request) (s : List ℕ) (octets : Octets s) where
   -- a frame that is not refused is no longer than its kind allows
   short : first (readerRefusals q s) ≡ none → length s ≤ replyRoom
   unfolding readerRefusals faults
-  short e = omega (arith, ltb-false (shapeOf (kindOf s) .longest) (length s) (none-head WrongLength _ _ (none-tail WrongLength _ _ e)), longest-fits (kindOf s))
+  short e = omega (arith, ltb-false (shapeOf (kindOf s) .longest) (length s) (none-head 3 _ _ (none-tail 3 _ _ e)), longest-fits (kindOf s))
 
   here : length s ≤ replyRoom → Small (toldOf (partsOf Reply s) s)
   unfolding toldOf partsOf
   here h = record { status = octets _; start = omega (arith, lead-small (kindOf s)); len = omega arith }
 
-  pub told-small : (t : Told) → readAs q s ≡ Sound t → Small t
+  pub told-small : (t : Told) → readAs q s ≡ found t → Small t
   unfolding readAs
   told-small t e = go (first (readerRefusals q s)) refl e
     where
-      go : (o : Option Refusal) → first (readerRefusals q s) ≡ o → reading o (toldOf (partsOf Reply s) s) ≡ Sound t → Small t
+      go : (o : Option ℕ) → first (readerRefusals q s) ≡ o → finding o (toldOf (partsOf Reply s) s) ≡ found t → Small t
       go none f e = let same : t ≡ toldOf (partsOf Reply s) s = cc in rw same (here (short f))
       go (some r) f e = let z : _≡_ {A = ℕ} 0 1 = cc in absurd (omega arith)

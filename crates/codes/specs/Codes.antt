@@ -9,8 +9,7 @@ use Rattle.rules.specs.declared.Written.{Written}
 use Rattle.rules.specs.declared.Written.the-variants.{Octets, Refused as NotWritten}
 use Rattle.depot.specs.declared.Answer.{Answer}
 use Rattle.depot.specs.declared.Answer.the-variants.{Refused, Reply, Sighted, Done}
-use Rattle.reader.specs.declared.Reading.{Reading}
-use Rattle.reader.specs.declared.Reading.the-variants.{Sound, Refused as NotRead}
+use Rattle.reader.specs.Reader.{Finding, refused as notRead, found as read}
 
 -- ---- the ranges
 
@@ -106,6 +105,6 @@ writtenCode (NotWritten r) = numberOf r
 writtenCode (Octets n) = written .from + n
 
 -- the reader
-abbrev pub readCode : Reading → ℕ
-readCode (NotRead r) = numberOf r
-readCode (Sound t) = told .from + t .status * 2 ^ 24 + t .start * 2 ^ 16 + t .len
+abbrev pub readCode : Finding → ℕ
+readCode (notRead n) = n
+readCode (read t) = told .from + t .status * 2 ^ 24 + t .start * 2 ^ 16 + t .len

@@ -5,6 +5,7 @@ use rules::Seen;
 use rules::Written;
 ghost use mathlib.Core.Path.{_≡_};
 ghost use Prim.Native.Nat.{_<_, _^_};
+ghost use Rattle.reader.specs.Reader.{findingOf};
 ghost use Rattle.codes.specs.Codes.{seenCode, codeOf, writtenCode, readCode};
 
 const RECORDED: u64 = 64;
@@ -53,8 +54,8 @@ pub fn written_code(w: Written) -> u64
 
 // Of the reader.
 pub fn read_code(a: Reading) -> u64
-    requires { ⌜ readCode a < 2 ^ 64 ⌝ }
-    ensures { λ r. ⌜ r ≡ readCode a ⌝ }
+    requires { ⌜ readCode (findingOf a) < 2 ^ 64 ⌝ }
+    ensures { λ r. ⌜ r ≡ readCode (findingOf a) ⌝ }
 {
     match a {
         Reading::Refused(r) => r.number() as u64,

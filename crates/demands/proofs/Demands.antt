@@ -1,17 +1,18 @@
 -- The user's three demands, a theorem for each of their sentences, over the promises of the calls. Assumes nothing.
 use Prim.Native.Nat.{ℕ, _≤_, _<_}
 use mathlib.Core.Path.{_≡_, subst}
-use mathlib.Core.Bool.{Bool, true, false, cond}
+use mathlib.Core.Bool.{Bool, true, false, cond, not}
 use mathlib.Core.List.{List}
 use mathlib.Core.Logic.{_⊎_, inl, inr}
+use mathlib.Core.Option.{none, some}
 use lib.ListN.{length, take}
 use lib.Dec.{eqb}
 use Rattle.table.specs.Entries.{desks}
 use Rattle.rules.specs.Config.{blockSize}
 use Rattle.frame.specs.Shape.{replyRoom}
-use Rattle.octets.specs.Tests.{allOf}
+use Rattle.octets.specs.Tests.{first, allOf}
 use Rattle.frame.specs.declared.Refusal.{Refusal}
-use Rattle.frame.specs.declared.Refusal.the-variants.{Unsound}
+use Rattle.frame.specs.Refusal.{numberOf, Refuses}
 use Rattle.rules.specs.declared.Written.the-variants.{Octets}
 use Rattle.rules.specs.Box.{Event, frame, freshBox, deskAt, run, after}
 use Rattle.rules.specs.Events.{history}
@@ -23,29 +24,31 @@ use Rattle.store.specs.View.{view}
 use Rattle.store.specs.Sound.{sound}
 use Rattle.depot.specs.declared.Answer.{Answer}
 use Rattle.depot.specs.declared.Answer.the-variants.{Refused, Done}
-use Rattle.depot.specs.Called.{Called, Made}
+use Rattle.depot.specs.Called.{Called, freshRefusals, MadeOf, Made}
 use Rattle.requests.specs.declared.Request.{Request}
 use Rattle.maker.specs.Maker.{Requested}
 use Rattle.demands.specs.History.{Deed, eventsOf, History}
-use Rattle.demands.specs.Answers.{ofItsList, GaveAll, heardBy}
+use Rattle.demands.specs.Answers.{testsOf, ofItsKind, GaveAll, heardBy}
 use Rattle.demands.specs.Exchange.{ReadBack}
 use Rattle.demands.proofs.Steps.{lived}
-use Rattle.demands.proofs.Listed.{refused-writes-nothing, always-listed}
+use Rattle.demands.proofs.Listed.{refused-first, always-of-kind}
 use Rattle.demands.proofs.Isolated.{isolated}
 use Rattle.demands.proofs.HostAndBox.{host-hears, made-frame, made-carriable}
 
--- 1. Nothing harms the box: any octets, any numbers, any store. The answer is of the call's list, and a refused call writes nothing
+-- 1. Nothing harms the box: any octets, any numbers, any store. The answer is of the event's kind, or the first refusal of its list that is
+-- given; and a refused call writes nothing
 pub nothing-harms : (e : Event) (s out : List ℕ) (a : Answer) (s′ out′ : List ℕ) → Called e s out a s′ out′
-    → (ofItsList e a ≡ true) × ((r : Refusal) → a ≡ Refused r → (s′ ≡ s) × (out′ ≡ out))
-nothing-harms e s out a s′ out′ c = (always-listed e s out a s′ out′ c, λ r q. refused-writes-nothing e s out a s′ out′ r c q)
+    → (ofItsKind e a ≡ true) × ((r : Refusal) → a ≡ Refused r → (first (testsOf s e) ≡ some (numberOf r)) × (s′ ≡ s) × (out′ ≡ out))
+nothing-harms e s out a s′ out′ c = (always-of-kind e s out a s′ out′ c, λ r q. refused-first e s out a s′ out′ c r q)
 
 -- a buffer is made fresh, or refused with 1 and kept
-pub fresh-or-kept : (s : List ℕ) (a : Answer) (s′ : List ℕ) → Made s a s′ → ((a ≡ Done) × (s′ ≡ freshStore)) ⊎ ((a ≡ Refused Unsound) × (s′ ≡ s))
-fresh-or-kept s a s′ m = go (eqb (length s) storeSize) (m .answer-is) (m .store-is)
+pub fresh-or-kept : (s : List ℕ) (a : Answer) (s′ : List ℕ) → Made s a s′ → ((a ≡ Done) × (s′ ≡ freshStore)) ⊎ (Refuses Refused 1 a × (s′ ≡ s))
+unfolding freshRefusals first
+fresh-or-kept s a s′ m = go (eqb (length s) storeSize) (m .made)
   where
-    go : (b : Bool) → a ≡ cond b Done (Refused Unsound) → s′ ≡ cond b freshStore s → ((a ≡ Done) × (s′ ≡ freshStore)) ⊎ ((a ≡ Refused Unsound) × (s′ ≡ s))
-    go true p q = inl (p, q)
-    go false p q = inr (p, q)
+    go : (b : Bool) → MadeOf (cond (not b) (some 1) none) s a s′ → ((a ≡ Done) × (s′ ≡ freshStore)) ⊎ (Refuses Refused 1 a × (s′ ≡ s))
+    go true p = inl p
+    go false p = inr p
 
 -- 2. Exactly the paper's answers: over any history the answers, the output octets and what is kept are those of the rules, and the store is sound
 pub papers-answers : (ds : List Deed) (s : List ℕ) → History ds s

@@ -1,5 +1,6 @@
 pub mod HostAndBox
 pub mod Steps
+pub mod Lists
 pub mod Listed
 pub mod Isolated
 pub mod Useless

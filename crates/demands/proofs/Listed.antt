@@ -1,93 +1,124 @@
--- Demand 1: whatever the store, the octets and the numbers, a call gives an answer of its list, and a refused call writes nothing.
--- Assumes nothing.
+-- Demand 1 of the box: whatever the store, the octets and the numbers, the answer is of the event's kind or the first refusal of its list,
+-- and a refused call writes nothing. Assumes nothing.
 use Prim.Native.Nat.{ℕ}
-use mathlib.Core.Path.{_≡_, refl, ap, _∙_}
-use mathlib.Core.Bool.{Bool, true, false}
-use mathlib.Core.List.{List}
+use mathlib.Core.Path.{_≡_, refl, sym, ap, _∙_}
+use mathlib.Core.Bool.{Bool, true, false, cond, not}
+use mathlib.Core.List.{List, [], _∷_}
 use mathlib.Core.Option.{Option, none, some}
 use native.Mathlib.Omega.{arith}
-use lib.ListN.{length}
 use Rattle.octets.specs.Tests.{first}
-use Rattle.octets.specs.Each.{All}
-use Rattle.octets.proofs.Each.{given-each}
 use Rattle.frame.specs.declared.Refusal.{Refusal}
-use Rattle.frame.specs.declared.Refusal.the-variants.{Unsound}
-use Rattle.frame.specs.Judged.{faults}
-use Rattle.rules.specs.Box.{Box, deskAt, Event, frame, sighting, tick, Answer as RuleAnswer, refused, reply, seen, ok, AtDesk, request, served, sighted, placed, unlessRefused, frameRefusals, sightingRefusals, step}
+use Rattle.frame.specs.Refusal.{numberOf}
+use Rattle.frame.proofs.Numbers.{refuses-number}
+use Rattle.rules.specs.Box.{Box, deskAt, Event, frame, sighting, tick, Answer as RuleAnswer, refused, reply, seen, ok, AtDesk, Step, request, served, sighted, placed, unlessRefused, frameRefusals, sightingRefusals, step}
 use Rattle.store.specs.View.{view}
 use Rattle.store.specs.Sound.{sound}
 use Rattle.depot.specs.declared.Answer.{Answer}
 use Rattle.depot.specs.declared.Answer.the-variants.{Refused, Reply, Sighted, Done}
 use Rattle.depot.specs.Called.{stepOn, Ended, Called}
-use Rattle.demands.specs.Answers.{ofItsList}
+use Rattle.demands.specs.Answers.{testsOf, ofItsKind}
 
--- ---- a refused call writes nothing
+-- ---- a refused call: the rules refuse with that number, and it writes nothing
 
-ended-refused : (t : RuleAnswer) (box : Box) (s out : List ℕ) (a : Answer) (s′ out′ : List ℕ) (r : Refusal) → a ≡ Refused r
-    → Ended t box s out a s′ out′ → (s′ ≡ s) × (out′ ≡ out)
-ended-refused (refused x) box s out a s′ out′ r e p = p .1
-ended-refused (reply t) box s out a s′ out′ r e p = let z : _≡_ {A = ℕ} 0 1 = cc in absurd (omega arith)
-ended-refused (seen w) box s out a s′ out′ r e p = let z : _≡_ {A = ℕ} 0 1 = cc in absurd (omega arith)
-ended-refused ok box s out a s′ out′ r e p = let z : _≡_ {A = ℕ} 0 1 = cc in absurd (omega arith)
+module _ (box : Box) (s out : List ℕ) (a : Answer) (s′ out′ : List ℕ) (r : Refusal) (e : a ≡ Refused r) where
+  ended-refused : (t : RuleAnswer) → Ended t box s out a s′ out′ → (t ≡ refused (numberOf r)) × (s′ ≡ s) × (out′ ≡ out)
+  ended-refused (refused n) p =
+      let same : p .0 .why ≡ r = cc (p .0 .answer-is) in
+      (ap refused (refuses-number (p .0 .number-is) same), p .1 .0, p .1 .1)
+  ended-refused (reply t) p = let z : _≡_ {A = ℕ} 0 1 = cc in absurd (omega arith)
+  ended-refused (seen w) p = let z : _≡_ {A = ℕ} 0 1 = cc in absurd (omega arith)
+  ended-refused ok p = let z : _≡_ {A = ℕ} 0 1 = cc in absurd (omega arith)
 
-pub refused-writes-nothing : (e : Event) (s out : List ℕ) (a : Answer) (s′ out′ : List ℕ) (r : Refusal) → Called e s out a s′ out′ → a ≡ Refused r → (s′ ≡ s) × (out′ ≡ out)
-refused-writes-nothing e s out a s′ out′ r c q = ended-refused (stepOn s e .answer) (stepOn s e .box) s out a s′ out′ r q (c .ended)
+-- ---- the rules refuse with the first number of the event's list that is given
 
--- ---- the rules' answers are of each event's list
+-- the tests that come after that of the store
+abbrev after1 : Event → List (ℕ × Bool)
+after1 (frame f room) = frameRefusals f room
+after1 (sighting n uid mask) = sightingRefusals n mask
+after1 tick = []
 
--- as the call gives them: how long a reply is does not matter here
-given : RuleAnswer → Answer
-given (refused r) = Refused r
-given (reply t) = Reply (length t)
-given (seen w) = Sighted w
-given ok = Done
+unless-first : (o : Option ℕ) (box : Box) (st : Step) (n : ℕ) → ((k : ℕ) → st .answer ≡ refused k → ⊥) → unlessRefused o box st .answer ≡ refused n → o ≡ some n
+unfolding unlessRefused
+unless-first none box st n never e = absurd (never n e)
+unless-first (some k) box st n never e = cc
 
-ended-given : (t : RuleAnswer) (box : Box) (s out : List ℕ) (a : Answer) (s′ out′ : List ℕ) → Ended t box s out a s′ out′ → a ≡ given t
-unfolding given
-ended-given (refused r) box s out a s′ out′ p = p .0
-ended-given (reply t) box s out a s′ out′ p = p .0
-ended-given (seen w) box s out a s′ out′ p = p .0
-ended-given ok box s out a s′ out′ p = p .0
+step-first : (box : Box) (e : Event) (n : ℕ) → step box e .answer ≡ refused n → first (after1 e) ≡ some n
+unfolding step placed
+step-first box (frame f room) n e =
+    unless-first (first (frameRefusals f room)) box (placed box (request f .address) (served f (deskAt box (request f .address)))) n
+    (λ k q. unfold served in let z : _≡_ {A = ℕ} 0 1 = cc in omega arith) e
+step-first box (sighting m uid mask) n e =
+    unless-first (first (sightingRefusals m mask)) box (placed box m (sighted uid mask (deskAt box m))) n
+    (λ k q. unfold sighted in let z : _≡_ {A = ℕ} 0 1 = cc in omega arith) e
+step-first box tick n e = let z : _≡_ {A = ℕ} 0 1 = cc in absurd (omega arith)
 
-abbrev InList : Event → Refusal → Type 0
-InList e r = ofItsList e (Refused r) ≡ true
+tests-are : (s : List ℕ) (e : Event) → testsOf s e ≡ (1, not (sound s)) ∷ after1 e
+unfolding testsOf
+tests-are s (frame f room) = refl
+tests-are s (sighting n uid mask) = refl
+tests-are s tick = refl
 
-frame-each : (f : List ℕ) (room : ℕ) → All (λ (t : Refusal × Bool). InList (frame f room) (t .0)) (frameRefusals f room)
-unfolding frameRefusals faults ofItsList
-frame-each f room = (refl, (refl, (refl, (refl, (refl, (refl, tt))))))
-
-sighting-each : (n uid mask : ℕ) → All (λ (t : Refusal × Bool). InList (sighting n uid mask) (t .0)) (sightingRefusals n mask)
-unfolding sightingRefusals ofItsList
-sighting-each n uid mask = (refl, (refl, tt))
-
-module _ (e : Event) (box : Box) (n : ℕ) (a : AtDesk) (own : ofItsList e (given (a .answer)) ≡ true) where
-  unless-listed : (ts : List (Refusal × Bool)) → All (λ (t : Refusal × Bool). InList e (t .0)) ts → (o : Option Refusal) → first ts ≡ o
-      → ofItsList e (given (unlessRefused o box (placed box n a) .answer)) ≡ true
-  unfolding unlessRefused placed given
-  unless-listed ts p none q = own
-  unless-listed ts p (some r) q = given-each (InList e) ts r p q
-
-step-listed : (box : Box) (e : Event) → ofItsList e (given (step box e .answer)) ≡ true
-unfolding step
-step-listed box (frame f room) =
-    unless-listed (frame f room) box (request f .address) (served f (deskAt box (request f .address))) (unfold ofItsList given served in refl)
-    (frameRefusals f room) (frame-each f room) (first (frameRefusals f room)) refl
-step-listed box (sighting n uid mask) =
-    unless-listed (sighting n uid mask) box n (sighted uid mask (deskAt box n)) (unfold ofItsList given sighted in refl)
-    (sightingRefusals n mask) (sighting-each n uid mask) (first (sightingRefusals n mask)) refl
-step-listed box tick = unfold ofItsList given in refl
-
-unsound-listed : (e : Event) → InList e Unsound
-unfolding ofItsList
-unsound-listed (frame f room) = refl
-unsound-listed (sighting n uid mask) = refl
-unsound-listed tick = refl
-
--- every call, on any octets at all
-pub always-listed : (e : Event) (s out : List ℕ) (a : Answer) (s′ out′ : List ℕ) → Called e s out a s′ out′ → ofItsList e a ≡ true
-unfolding stepOn given
-always-listed e s out a s′ out′ c = ap (ofItsList e) (ended-given (stepOn s e .answer) (stepOn s e .box) s out a s′ out′ (c .ended)) ∙ go (sound s) refl
+on-first : (s : List ℕ) (e : Event) (n : ℕ) → stepOn s e .answer ≡ refused n → first (testsOf s e) ≡ some n
+unfolding stepOn first
+on-first s e n = rw (tests-are s e) (go (sound s))
   where
-    go : (b : Bool) → sound s ≡ b → ofItsList e (given (stepOn s e .answer)) ≡ true
-    go true q = rw q (step-listed (view s) e)
-    go false q = rw q (unsound-listed e)
+    go : (b : Bool) → cond b (step (view s) e) record { answer = refused 1; box = view s } .answer ≡ refused n → cond (not b) (some 1) (first (after1 e)) ≡ some n
+    go true q = step-first (view s) e n q
+    go false q = cc
+
+module _ (e : Event) (s out : List ℕ) (a : Answer) (s′ out′ : List ℕ) (c : Called e s out a s′ out′) where
+  pub refused-first : (r : Refusal) → a ≡ Refused r → (first (testsOf s e) ≡ some (numberOf r)) × (s′ ≡ s) × (out′ ≡ out)
+  refused-first r q =
+      let x = ended-refused (stepOn s e .box) s out a s′ out′ r q (stepOn s e .answer) (c .ended) in
+      (on-first s e (numberOf r) (x .0), x .1, x .2)
+
+-- ---- every other answer is of the event's kind
+
+-- in the rules
+ruleKind : Event → RuleAnswer → Bool
+ruleKind e (refused n) = true
+ruleKind (frame f room) (reply t) = true
+ruleKind (frame f room) (seen w) = false
+ruleKind (frame f room) ok = false
+ruleKind (sighting m uid mask) (reply t) = false
+ruleKind (sighting m uid mask) (seen w) = true
+ruleKind (sighting m uid mask) ok = false
+ruleKind tick (reply t) = false
+ruleKind tick (seen w) = false
+ruleKind tick ok = true
+
+unless-kind : (e : Event) (o : Option ℕ) (box : Box) (st : Step) → ruleKind e (st .answer) ≡ true → ruleKind e (unlessRefused o box st .answer) ≡ true
+unfolding unlessRefused ruleKind
+unless-kind e none box st h = h
+unless-kind e (some n) box st h = refl
+
+step-kind : (box : Box) (e : Event) → ruleKind e (step box e .answer) ≡ true
+unfolding step placed
+step-kind box (frame f room) = unless-kind (frame f room) (first (frameRefusals f room)) box _ (unfold served ruleKind in refl)
+step-kind box (sighting m uid mask) = unless-kind (sighting m uid mask) (first (sightingRefusals m mask)) box _ (unfold sighted ruleKind in refl)
+step-kind box tick = unfold ruleKind in refl
+
+on-kind : (s : List ℕ) (e : Event) → ruleKind e (stepOn s e .answer) ≡ true
+unfolding stepOn
+on-kind s e = go (sound s)
+  where
+    go : (b : Bool) → ruleKind e (cond b (step (view s) e) record { answer = refused 1; box = view s } .answer) ≡ true
+    go true = step-kind (view s) e
+    go false = unfold ruleKind in refl
+
+module _ (box : Box) (s out : List ℕ) (a : Answer) (s′ out′ : List ℕ) where
+  ended-kind : (e : Event) (t : RuleAnswer) → Ended t box s out a s′ out′ → ruleKind e t ≡ ofItsKind e a
+  unfolding ruleKind ofItsKind
+  ended-kind e (refused n) p = rw (p .0 .answer-is)
+  ended-kind (frame f room) (reply t) p = rw (p .0)
+  ended-kind (frame f room) (seen w) p = rw (p .0)
+  ended-kind (frame f room) ok p = rw (p .0)
+  ended-kind (sighting m uid mask) (reply t) p = rw (p .0)
+  ended-kind (sighting m uid mask) (seen w) p = rw (p .0)
+  ended-kind (sighting m uid mask) ok p = rw (p .0)
+  ended-kind tick (reply t) p = rw (p .0)
+  ended-kind tick (seen w) p = rw (p .0)
+  ended-kind tick ok p = rw (p .0)
+
+pub always-of-kind : (e : Event) (s out : List ℕ) (a : Answer) (s′ out′ : List ℕ) → Called e s out a s′ out′ → ofItsKind e a ≡ true
+always-of-kind e s out a s′ out′ c = sym (ended-kind (stepOn s e .box) s out a s′ out′ e (stepOn s e .answer) (c .ended)) ∙ on-kind s e

@@ -2,35 +2,30 @@
 -- Assumes nothing.
 use Prim.Native.Nat.{ℕ}
 use mathlib.Core.Path.{_≡_, refl, sym, ap, _∙_, subst}
-use mathlib.Core.Bool.{Bool, true, false, cond}
+use mathlib.Core.Bool.{true}
 use mathlib.Core.List.{List, [], _∷_}
 use mathlib.Core.Option.{Option, none, some}
 use native.Mathlib.Omega.{arith}
-use lib.ListN.{length}
-use lib.Dec.{eqb}
 use Rattle.octets.specs.Tests.{first}
-use Rattle.frame.specs.declared.Refusal.{Refusal}
-use Rattle.frame.specs.declared.Refusal.the-variants.{Unsound}
 use Rattle.rules.specs.Box.{Box, freshBox, deskAt, Event, frame, sighting, tick, Answer as RuleAnswer, refused, reply, seen, ok, AtDesk, Step, request, served, sighted, placed, unlessRefused, frameRefusals, sightingRefusals, step, run, after}
-use Rattle.store.specs.Layout.{storeSize}
 use Rattle.fresh.specs.Fresh.{freshStore}
 use Rattle.store.specs.View.{view}
 use Rattle.store.specs.Sound.{sound}
 use Rattle.views.proofs.FreshBox.{fresh-sound, fresh-view}
-use Rattle.depot.specs.declared.Answer.the-variants.{Refused, Done}
-use Rattle.depot.specs.Called.{stepOn, Ended, Called, Made}
+use Rattle.depot.specs.declared.Answer.the-variants.{Done}
+use Rattle.depot.specs.Called.{stepOn, Ended, Called, freshRefusals, MadeOf, Made}
 use Rattle.demands.specs.History.{eventOf, lentTo, Deed, eventsOf, Ran, History}
 use Rattle.demands.specs.Answers.{Gave, GaveAll}
 
 -- ---- a refused event changes nothing, in the rules
 
-keeps-unless : (o : Option Refusal) (box : Box) (n : ℕ) (a : AtDesk) (r : Refusal) → ((x : Refusal) → a .answer ≡ refused x → ⊥)
+keeps-unless : (o : Option ℕ) (box : Box) (n : ℕ) (a : AtDesk) (r : ℕ) → ((x : ℕ) → a .answer ≡ refused x → ⊥)
     → unlessRefused o box (placed box n a) .answer ≡ refused r → unlessRefused o box (placed box n a) .box ≡ box
 unfolding unlessRefused placed
 keeps-unless none box n a r never e = absurd (never r e)
 keeps-unless (some x) box n a r never e = refl
 
-pub refused-keeps : (box : Box) (e : Event) (r : Refusal) → step box e .answer ≡ refused r → step box e .box ≡ box
+pub refused-keeps : (box : Box) (e : Event) (r : ℕ) → step box e .answer ≡ refused r → step box e .box ≡ box
 unfolding step
 refused-keeps box (frame f room) r e =
     keeps-unless (first (frameRefusals f room)) box (request f .address) (served f (deskAt box (request f .address))) r
@@ -49,7 +44,7 @@ pub record Stepped (st : Step) (d : Deed) (s′ : List ℕ) : Type 0 where
   pub gave : Gave (st .answer) d
 
 module _ (d : Deed) (s s′ : List ℕ) (q : sound s ≡ true) where
-  by-answer : (t : RuleAnswer) (box : Box) → ((r : Refusal) → t ≡ refused r → box ≡ view s)
+  by-answer : (t : RuleAnswer) (box : Box) → ((r : ℕ) → t ≡ refused r → box ≡ view s)
       → Ended t box s (lentTo (d .call)) (d .answer) s′ (d .output) → Stepped (record { answer = t; box = box }) d s′
   by-answer (refused r) box keep e =
       record { still = ap sound (e .1 .0) ∙ q; says = ap view (e .1 .0) ∙ sym (keep r refl); gave = (e .0, e .1 .1) }
@@ -81,11 +76,11 @@ led (d ∷ ds) s s″ q (s′, c, r) =
 -- ---- from a fresh store
 
 fresh-is : (buffer fresh : List ℕ) → Made buffer Done fresh → fresh ≡ freshStore
-fresh-is buffer fresh m = go (eqb (length buffer) storeSize) (m .answer-is) (m .store-is)
+fresh-is buffer fresh m = go (first (freshRefusals buffer)) (m .made)
   where
-    go : (b : Bool) → Done ≡ cond b Done (Refused Unsound) → fresh ≡ cond b freshStore buffer → fresh ≡ freshStore
-    go true a e = e
-    go false a e = let z : _≡_ {A = ℕ} 0 1 = cc in absurd (omega arith)
+    go : (o : Option ℕ) → MadeOf o buffer Done fresh → fresh ≡ freshStore
+    go none x = x .1
+    go (some n) x = let z : _≡_ {A = ℕ} 0 1 = cc (x .0 .answer-is) in absurd (omega arith)
 
 pub lived : (ds : List Deed) (s : List ℕ) → History ds s → Led freshBox ds s
 lived ds s h =

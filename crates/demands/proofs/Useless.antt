@@ -1,7 +1,7 @@
 -- The paper's useless boxes: for each a few calls after which no history has what such a box would do. Assumes nothing.
 use Prim.Native.Nat.{ℕ, _<_}
 use mathlib.Core.Path.{_≡_, refl, sym, ap, _∙_}
-use mathlib.Core.List.{List, [], _∷_, _++_, map}
+use mathlib.Core.List.{List, [], _∷_, _++_}
 use native.Mathlib.Omega.{arith}
 use lib.ListN.{length, getD, take, replicate}
 use borrow.Author.Tests.{eq-eqb, ne-eqb}
@@ -15,7 +15,7 @@ use Rattle.frame.specs.declared.Kind.the-variants.{Standard}
 use Rattle.frame.specs.declared.Refusal.{Refusal}
 use Rattle.frame.specs.Sealed.{frameOf}
 use Rattle.rules.specs.declared.Seen.the-variants.{Ignored, Recorded}
-use Rattle.rules.specs.Box.{freshBox, Answer as RuleAnswer, reply, seen, ok}
+use Rattle.rules.specs.Box.{freshBox, Answer as RuleAnswer, refused, reply, seen, ok}
 use Rattle.rules.specs.Desk.{Desk}
 use Rattle.rules.specs.Control.{commands, knownIn, known, sizedFor}
 use Rattle.rules.specs.Command.{rowTests, tableTests, result, rowEffect, tableEffect, tests, unless, obey, answered}
@@ -26,8 +26,8 @@ use Rattle.depot.specs.declared.Answer.{Answer}
 use Rattle.depot.specs.declared.Answer.the-variants.{Refused, Sighted, Done}
 use Rattle.requests.proofs.Values.{two-back}
 use Rattle.demands.specs.History.{Call, frame, sighting, tick, Deed, eventsOf, History}
-use Rattle.demands.specs.Answers.{Heard, octetsOf, heardBy}
-use Rattle.demands.proofs.Isolated.{told, heard-of-desk}
+use Rattle.demands.specs.Answers.{heard, heardBy}
+use Rattle.demands.proofs.Isolated.{heard-of-desk}
 
 -- a request to desk 0 in a standard frame, with an output that has room; and its reply
 abbrev ask : ℕ → List ℕ → Call
@@ -43,25 +43,25 @@ abbrev deed : Call → Answer → List ℕ → Deed
 deed c a o = record { call = c; answer = a; output = o }
 
 -- what desk 0 heard of its call k
-nothing : Heard
-nothing = record { answer = Done; octets = [] }
+abbrev heardAt : ℕ → List RuleAnswer → RuleAnswer
+heardAt k hs = getD hs k ok
 
-abbrev answerAt : ℕ → List Heard → Answer
-answerAt k hs = getD hs k nothing .answer
-
-abbrev octetsAt : ℕ → List Heard → List ℕ
-octetsAt k hs = getD hs k nothing .octets
+abbrev octetsIn : RuleAnswer → List ℕ
+octetsIn (refused n) = []
+octetsIn (reply t) = t
+octetsIn (seen w) = []
+octetsIn ok = []
 
 -- what came of the calls, where the rules' answers to desk 0 are computed
 module _ (ds : List Deed) (s : List ℕ) (h : History ds s) (as′ : List RuleAnswer) (e : answersOf 0 freshBox (eventsOf ds) ≡ as′) where
-  came : heardBy 0 ds ≡ map told as′
-  came = heard-of-desk 0 ds s h ∙ ap (map told) e
+  came : heardBy 0 ds ≡ as′
+  came = heard-of-desk 0 ds s h ∙ e
 
 -- refuses all: a tick of a fresh store is answered ok
 pub refuses-all : (a : Answer) (o s : List ℕ) (r : Refusal) → History (deed tick a o ∷ []) s → a ≡ Refused r → ⊥
-unfolding computed concerns answersOf heardBy told
+unfolding computed concerns answersOf heardBy
 refuses-all a o s r h e =
-    let f : a ≡ Done = ap (answerAt 0) (came (deed tick a o ∷ []) s h (ok ∷ []) refl) in
+    let f : heard a o ≡ ok = ap (heardAt 0) (came (deed tick a o ∷ []) s h (ok ∷ []) refl) in
     let z : _≡_ {A = ℕ} 0 1 = cc in
     omega arith
 
@@ -70,51 +70,51 @@ module _ (a b c : Answer) (x y z s : List ℕ) where
   abbrev written-and-read : List Deed
   written-and-read = deed (ask 0xA0 (zeros 4)) a x ∷ deed (ask 0x81 (0x02 ∷ 1 ∷ zeros 13)) b y ∷ deed (ask 0x80 (0x02 ∷ [])) c z ∷ []
 
-  read-back : History written-and-read s → (octetsOf a x ≡ replyOf 0xA0 []) × (octetsOf c z ≡ replyOf 0x80 (1 ∷ zeros 13))
-  unfolding computed concerns answersOf heardBy told
+  read-back : History written-and-read s → (heard a x ≡ reply (replyOf 0xA0 [])) × (heard c z ≡ reply (replyOf 0x80 (1 ∷ zeros 13)))
+  unfolding computed concerns answersOf heardBy
   read-back h =
       let e = came written-and-read s h (reply (replyOf 0xA0 []) ∷ reply (replyOf 0x81 []) ∷ reply (replyOf 0x80 (1 ∷ zeros 13)) ∷ []) refl in
-      (ap (octetsAt 0) e, ap (octetsAt 2) e)
+      (ap (heardAt 0) e, ap (heardAt 2) e)
 
-  pub constant-reply : History written-and-read s → octetsOf a x ≡ octetsOf c z → ⊥
+  pub constant-reply : History written-and-read s → heard a x ≡ heard c z → ⊥
   unfolding computed
   constant-reply h e =
-      let same : length (replyOf 0xA0 []) ≡ length (replyOf 0x80 (1 ∷ zeros 13)) = ap length (sym (read-back h .0) ∙ e ∙ read-back h .1) in
+      let same : length (replyOf 0xA0 []) ≡ length (replyOf 0x80 (1 ∷ zeros 13)) = ap (λ (w : RuleAnswer). length (octetsIn w)) (sym (read-back h .0) ∙ e ∙ read-back h .1) in
       omega arith
 
-  pub writes-nothing : History written-and-read s → octetsOf c z ≡ replyOf 0x80 (zeros 14) → ⊥
+  pub writes-nothing : History written-and-read s → heard c z ≡ reply (replyOf 0x80 (zeros 14)) → ⊥
   unfolding computed
   writes-nothing h e =
-      let same : getD (replyOf 0x80 (1 ∷ zeros 13)) 4 0 ≡ getD (replyOf 0x80 (zeros 14)) 4 0 = ap (λ (t : List ℕ). getD t 4 0) (sym (read-back h .1) ∙ e) in
+      let same : getD (replyOf 0x80 (1 ∷ zeros 13)) 4 0 ≡ getD (replyOf 0x80 (zeros 14)) 4 0 = ap (λ (w : RuleAnswer). getD (octetsIn w) 4 0) (sym (read-back h .1) ∙ e) in
       omega arith
 
 -- ignores every sighting
 pub ignores-sightings : (a : Answer) (o s : List ℕ) → History (deed (sighting 0 7 1) a o ∷ []) s → a ≡ Sighted Ignored → ⊥
-unfolding computed concerns answersOf heardBy told
+unfolding computed concerns answersOf heardBy
 ignores-sightings a o s h e =
-    let f : a ≡ Sighted Recorded = ap (answerAt 0) (came (deed (sighting 0 7 1) a o ∷ []) s h (seen Recorded ∷ []) refl) in
+    let f : heard a o ≡ seen Recorded = ap (heardAt 0) (came (deed (sighting 0 7 1) a o ∷ []) s h (seen Recorded ∷ []) refl) in
     let z : _≡_ {A = ℕ} 0 1 = cc in
     omega arith
 
 -- sleeps through ticks: after one the timer is sent as 100 ms
-pub sleeps-through-ticks : (a b : Answer) (x y s : List ℕ) → History (deed tick a x ∷ deed (ask 0x86 []) b y ∷ []) s → octetsOf b y ≡ replyOf 0x86 (zeros 4) → ⊥
-unfolding computed concerns answersOf heardBy told
+pub sleeps-through-ticks : (a b : Answer) (x y s : List ℕ) → History (deed tick a x ∷ deed (ask 0x86 []) b y ∷ []) s → heard b y ≡ reply (replyOf 0x86 (zeros 4)) → ⊥
+unfolding computed concerns answersOf heardBy
 sleeps-through-ticks a b x y s h e =
-    let f : octetsOf b y ≡ replyOf 0x86 (0 ∷ 0 ∷ 0 ∷ 100 ∷ []) =
-    ap (octetsAt 1) (came (deed tick a x ∷ deed (ask 0x86 []) b y ∷ []) s h (ok ∷ reply (replyOf 0x86 (0 ∷ 0 ∷ 0 ∷ 100 ∷ [])) ∷ []) refl) in
-    let same : getD (replyOf 0x86 (0 ∷ 0 ∷ 0 ∷ 100 ∷ [])) 7 0 ≡ getD (replyOf 0x86 (zeros 4)) 7 0 = ap (λ (t : List ℕ). getD t 7 0) (sym f ∙ e) in
+    let f : heard b y ≡ reply (replyOf 0x86 (0 ∷ 0 ∷ 0 ∷ 100 ∷ [])) =
+    ap (heardAt 1) (came (deed tick a x ∷ deed (ask 0x86 []) b y ∷ []) s h (ok ∷ reply (replyOf 0x86 (0 ∷ 0 ∷ 0 ∷ 100 ∷ [])) ∷ []) refl) in
+    let same : getD (replyOf 0x86 (0 ∷ 0 ∷ 0 ∷ 100 ∷ [])) 7 0 ≡ getD (replyOf 0x86 (zeros 4)) 7 0 = ap (λ (w : RuleAnswer). getD (octetsIn w) 7 0) (sym f ∙ e) in
     omega arith
 
 -- works at the first event and then pretends, and a made-up TAB-LEN: after two sightings two records are held
 pub pretends-after-the-first : (a b c : Answer) (x y z s : List ℕ) (n : ℕ)
     → History (deed (sighting 0 7 1) a x ∷ deed (sighting 0 8 1) b y ∷ deed (ask 0x31 []) c z ∷ []) s
-    → octetsOf c z ≡ replyOf 0x31 (0 ∷ 64 ∷ 0 ∷ 0 ∷ 0 ∷ n ∷ []) → n ≡ 2
-unfolding computed concerns answersOf heardBy told
+    → heard c z ≡ reply (replyOf 0x31 (0 ∷ 64 ∷ 0 ∷ 0 ∷ 0 ∷ n ∷ [])) → n ≡ 2
+unfolding computed concerns answersOf heardBy
 pretends-after-the-first a b c x y z s n h e =
-    let f : octetsOf c z ≡ replyOf 0x31 (0 ∷ 64 ∷ 0 ∷ 0 ∷ 0 ∷ 2 ∷ []) =
-    ap (octetsAt 2) (came (deed (sighting 0 7 1) a x ∷ deed (sighting 0 8 1) b y ∷ deed (ask 0x31 []) c z ∷ []) s h
+    let f : heard c z ≡ reply (replyOf 0x31 (0 ∷ 64 ∷ 0 ∷ 0 ∷ 0 ∷ 2 ∷ [])) =
+    ap (heardAt 2) (came (deed (sighting 0 7 1) a x ∷ deed (sighting 0 8 1) b y ∷ deed (ask 0x31 []) c z ∷ []) s h
     (seen Recorded ∷ seen Recorded ∷ reply (replyOf 0x31 (0 ∷ 64 ∷ 0 ∷ 0 ∷ 0 ∷ 2 ∷ [])) ∷ []) refl) in
-    ap (λ (t : List ℕ). getD t 9 0) (sym e ∙ f)
+    ap (λ (w : RuleAnswer). getD (octetsIn w) 9 0) (sym e ∙ f)
 
 -- made-up counts: TAB-LEN is the number of records held, and 0x22 sends the oldest of them, counted, whatever store the box works on
 module _ (kind : Kind) (d : Desk) where

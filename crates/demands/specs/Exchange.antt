@@ -18,9 +18,8 @@ use Rattle.depot.specs.declared.Answer.{Answer}
 use Rattle.depot.specs.declared.Answer.the-variants.{Reply}
 use Rattle.requests.specs.declared.Request.{Request}
 use Rattle.reader.specs.declared.Told.{Told}
-use Rattle.reader.specs.declared.Reading.the-variants.{Sound}
 use Rattle.requests.specs.Request.{controlOf, fieldsHold, dataFor}
-use Rattle.reader.specs.Reader.{readAs}
+use Rattle.reader.specs.Reader.{found, readAs}
 
 -- a request that a frame can carry
 pub record Carriable (q : Request) : Type 0 where
@@ -49,7 +48,7 @@ toldTo q s = let r = ruledBy q s in record { status = r .status; start = shapeOf
 pub record ReadBack (q : Request) (s : List ℕ) (a : Answer) (s′ out′ : List ℕ) : Type 0 where
   pub answer-is : a ≡ Reply (length (replyTo q s))
   pub there : taken q s out′ ≡ replyTo q s
-  pub read-is : readAs q (taken q s out′) ≡ Sound (toldTo q s)
+  pub read-is : readAs q (taken q s out′) ≡ found (toldTo q s)
   pub data-is : part (toldTo q s .start) (toldTo q s .len) (taken q s out′) ≡ ruledBy q s .sent
   pub still : sound s′ ≡ true
   pub says : view s′ ≡ set (view s) (q .desk) (ruledBy q s .desk)

@@ -10,12 +10,13 @@ use Rattle.octets.specs.Tests.{first}
 use Rattle.octets.specs.Parts.{put}
 use Rattle.frame.specs.declared.Way.the-variants.{Request, Reply}
 use Rattle.frame.specs.declared.Frame.{Frame}
-use Rattle.frame.specs.declared.Judged.the-variants.{Sound}
 use Rattle.frame.proofs.Verdict.{sound-parts}
+use Rattle.frame.proofs.Numbers.{refuses}
 use Rattle.frame.specs.declared.Refusal.{Refusal}
 use Rattle.frame.specs.declared.Refusal.the-variants.{Unsound}
 use Rattle.frame.specs.Shape.{shapeOf, replyRoom, overhead}
-use Rattle.frame.specs.Judged.{judged, dataOf}
+use Rattle.frame.specs.Refusal.{numberOf}
+use Rattle.frame.specs.Judged.{wellFormed, judged, dataOf}
 use Rattle.frame.specs.Sealed.{frameOf}
 use Rattle.seal.specs.declared.Sealed.the-variants.{Octets as Octets′, Not}
 use Rattle.seal.specs.Buffer.{sealedAs, replyIn}
@@ -40,20 +41,20 @@ use Rattle.depot.specs.Called.{stepOn, Called}
 
 pub unsound : (e : Event) (s out : List ℕ) → sound s ≡ false → Called e s out (Refused Unsound) s out
 unfolding stepOn
-unsound e s out q = record { ended = rw q (refl, (refl, refl)) }
+unsound e s out q = record { ended = rw q (refuses Refused Unsound, (refl, refl)) }
 
-pub frame-refused : (f : List ℕ) (room : ℕ) (r : Refusal) (s out : List ℕ) → sound s ≡ true → first (frameRefusals f room) ≡ some r → Called (frame f room) s out (Refused r) s out
+pub frame-refused : (f : List ℕ) (room : ℕ) (r : Refusal) (s out : List ℕ) → sound s ≡ true → first (frameRefusals f room) ≡ some (numberOf r) → Called (frame f room) s out (Refused r) s out
 unfolding stepOn step unlessRefused
-frame-refused f room r s out q e = record { ended = rw (q, e) (refl, (refl, refl)) }
+frame-refused f room r s out q e = record { ended = rw (q, e) (refuses Refused r, (refl, refl)) }
 
-pub sighting-refused : (n uid mask : ℕ) (r : Refusal) (s out : List ℕ) → sound s ≡ true → first (sightingRefusals n mask) ≡ some r → Called (sighting n uid mask) s out (Refused r) s out
+pub sighting-refused : (n uid mask : ℕ) (r : Refusal) (s out : List ℕ) → sound s ≡ true → first (sightingRefusals n mask) ≡ some (numberOf r) → Called (sighting n uid mask) s out (Refused r) s out
 unfolding stepOn step unlessRefused
-sighting-refused n uid mask r s out q e = record { ended = rw (q, e) (refl, (refl, refl)) }
+sighting-refused n uid mask r s out q e = record { ended = rw (q, e) (refuses Refused r, (refl, refl)) }
 
 -- ---- answered
 
 -- a reply: what the desk's command left, sealed
-module _ (f s s′ out out′ body : List ℕ) (p : Frame) (r : DeskReply) (q : sound s ≡ true) (is : judged Request f ≡ Sound p) (room : replyRoom ≤ length out)
+module _ (f s s′ out out′ body : List ℕ) (p : Frame) (r : DeskReply) (q : sound s ≡ true) (is : judged Request f ≡ wellFormed p) (room : replyRoom ≤ length out)
     (low : p .address < desks) (same : body ≡ dataOf p f)
     (y : Obeyed (p .address) (p .kind) (answered (p .kind) (kept (p .address) s) (p .control) body) r s s′ out out′) where
   abbrev res : Result

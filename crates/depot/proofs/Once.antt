@@ -1,11 +1,15 @@
 -- Two outcomes that one promise allows are equal: the answer, the output's octets, and what the store says. Assumes nothing.
 use mathlib.Core.Path.{_≡_, sym, ap, _∙_}
 use mathlib.Core.List.{List}
+use mathlib.Core.Option.{Option, none, some}
 use Prim.Native.Nat.{ℕ}
 use Rattle.rules.specs.Box.{Box, Event, Answer as RuleAnswer, refused, reply, seen, ok}
 use Rattle.store.specs.View.{view}
+use Rattle.frame.proofs.Numbers.{refuses-once}
+use Rattle.octets.specs.Tests.{first}
 use Rattle.depot.specs.declared.Answer.{Answer}
-use Rattle.depot.specs.Called.{stepOn, Ended, Called, Made}
+use Rattle.depot.specs.declared.Answer.the-variants.{Refused}
+use Rattle.depot.specs.Called.{stepOn, Ended, Called, freshRefusals, MadeOf, Made}
 
 pub record Same (a b : Answer) (out out′ s s′ : List ℕ) : Type 0 where
   pub answers : a ≡ b
@@ -14,8 +18,8 @@ pub record Same (a b : Answer) (out out′ s s′ : List ℕ) : Type 0 where
 
 ended-once : (t : RuleAnswer) (box : Box) (s out : List ℕ) (a b : Answer) (s′ s″ out′ out″ : List ℕ)
     → Ended t box s out a s′ out′ → Ended t box s out b s″ out″ → Same a b out′ out″ s′ s″
-ended-once (refused r) box s out a b s′ s″ out′ out″ p q =
-    record { answers = p .0 ∙ sym (q .0); outputs = p .1 .1 ∙ sym (q .1 .1); views = ap view (p .1 .0 ∙ sym (q .1 .0)) }
+ended-once (refused n) box s out a b s′ s″ out′ out″ p q =
+    record { answers = refuses-once Refused n a b (p .0) (q .0); outputs = p .1 .1 ∙ sym (q .1 .1); views = ap view (p .1 .0 ∙ sym (q .1 .0)) }
 ended-once (reply t) box s out a b s′ s″ out′ out″ p q =
     record { answers = p .0 ∙ sym (q .0); outputs = p .1 ∙ sym (q .1); views = p .2 .1 ∙ sym (q .2 .1) }
 ended-once (seen w) box s out a b s′ s″ out′ out″ p q =
@@ -28,4 +32,8 @@ once e s out a b s′ s″ out′ out″ p q = ended-once (stepOn s e .answer) (
 
 -- a fresh store is one list of octets
 pub made-once : (s : List ℕ) (a b : Answer) (s′ s″ : List ℕ) → Made s a s′ → Made s b s″ → (a ≡ b) × (s′ ≡ s″)
-made-once s a b s′ s″ p q = (p .answer-is ∙ sym (q .answer-is), p .store-is ∙ sym (q .store-is))
+made-once s a b s′ s″ p q = go (first (freshRefusals s)) (p .made) (q .made)
+  where
+    go : (o : Option ℕ) → MadeOf o s a s′ → MadeOf o s b s″ → (a ≡ b) × (s′ ≡ s″)
+    go none x y = (x .0 ∙ sym (y .0), x .1 ∙ sym (y .1))
+    go (some n) x y = (refuses-once Refused n a b (x .0) (y .0), x .1 ∙ sym (y .1))

@@ -9,8 +9,6 @@ use lib.ListN.{length}
 use Rattle.frame.specs.Shape.{replyRoom}
 use Rattle.octets.specs.Tests.{first}
 use Rattle.frame.specs.declared.Kind.{Kind}
-use Rattle.frame.specs.declared.Refusal.{Refusal}
-use Rattle.frame.specs.declared.Refusal.the-variants.{Unsound}
 use Rattle.frame.specs.Judged.{dataOf}
 use Rattle.frame.specs.Sealed.{frameOf}
 use Rattle.frame.proofs.Lengths.{length-frame}
@@ -43,7 +41,7 @@ Brief (seen w) = Unit {0}
 Brief ok = Unit {0}
 
 -- a step's answer is brief where what it gives unless it is refused is brief
-unless-brief : (o : Option Refusal) (box : Box) (p : Step) → Brief (p .answer) → Brief (unlessRefused o box p .answer)
+unless-brief : (o : Option ℕ) (box : Box) (p : Step) → Brief (p .answer) → Brief (unlessRefused o box p .answer)
 unfolding unlessRefused
 unless-brief none box p h = h
 unless-brief (some r) box p h = tt
@@ -52,7 +50,7 @@ on-brief : (s : List ℕ) (e : Event) → (sound s ≡ true → Brief (step (vie
 unfolding stepOn
 on-brief s e h = go (sound s) h
   where
-    go : (b : Bool) → (b ≡ true → Brief (step (view s) e .answer)) → Brief (cond b (step (view s) e) record { answer = refused Unsound; box = view s } .answer)
+    go : (b : Bool) → (b ≡ true → Brief (step (view s) e .answer)) → Brief (cond b (step (view s) e) record { answer = refused 1; box = view s } .answer)
     go true f = f refl
     go false f = tt
 
@@ -82,7 +80,7 @@ sighting-brief n uid mask s = unless-brief (first (sightingRefusals n mask)) (vi
 -- ---- of a call's
 
 ended-short : (t : RuleAnswer) (box : Box) (s out : List ℕ) (a : Answer) (s′ out′ : List ℕ) → Brief t → Ended t box s out a s′ out′ → Short a
-ended-short (refused r) box s out a s′ out′ h e = rw (e .0) tt
+ended-short (refused n) box s out a s′ out′ h e = rw (e .0 .answer-is) tt
 ended-short (reply t) box s out a s′ out′ h e = rw (e .0) h
 ended-short (seen w) box s out a s′ out′ h e = rw (e .0) tt
 ended-short ok box s out a s′ out′ h e = rw (e .0) tt

@@ -4,7 +4,6 @@ use mathlib.Core.Path.{_≡_, sym, ap, _∙_}
 use mathlib.Core.Bool.{Bool}
 use mathlib.Core.List.{List}
 use Rattle.octets.specs.Tests.{first}
-use Rattle.frame.specs.declared.Refusal.{Refusal}
 use Rattle.rules.specs.Box.{Event}
 use Rattle.rules.proofs.Output.{once as wrote-once}
 use Rattle.store.specs.View.{view}
@@ -23,7 +22,7 @@ module _ (n m : ℕ) where
       let same = made-once s (p .answer) (q .answer) s′ s″ (p .made) (q .made) in
       (p .code ∙ ap codeOf (same .0) ∙ sym (q .code), same .1)
 
-  pub wrote-as-once : (ts : List (Refusal × Bool)) (t out x y : List ℕ) → WroteAs ts t out n x → WroteAs ts t out m y → (n ≡ m) × (x ≡ y)
+  pub wrote-as-once : (ts : List (ℕ × Bool)) (t out x y : List ℕ) → WroteAs ts t out n x → WroteAs ts t out m y → (n ≡ m) × (x ≡ y)
   wrote-as-once ts t out x y p q =
       let same = wrote-once (first ts) t out (p .answer) (q .answer) x y (p .wrote) (q .wrote) in
       (p .code ∙ ap writtenCode (same .0) ∙ sym (q .code), same .1)

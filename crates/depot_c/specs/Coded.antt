@@ -6,8 +6,6 @@ use mathlib.Core.List.{List, _∷_}
 use lib.ListN.{length}
 use lib.Dec.{eqb}
 use Rattle.octets.specs.Tests.{first}
-use Rattle.frame.specs.declared.Refusal.{Refusal}
-use Rattle.frame.specs.declared.Refusal.the-variants.{OutOfRange}
 use Rattle.table.specs.Entries.{recordWidth}
 use Rattle.rules.specs.Config.{blockSize}
 use Rattle.rules.specs.declared.Written.{Written}
@@ -34,7 +32,7 @@ pub record MadeAs (s : List ℕ) (n : ℕ) (s′ : List ℕ) : Type 0 where
   pub made : Made s answer s′
 
 -- octets in a lent output: the first test that is given refuses, and nothing is written; else the octets t stand at the start
-pub record WroteAs (tests : List (Refusal × Bool)) (t out : List ℕ) (n : ℕ) (out′ : List ℕ) : Type 0 where
+pub record WroteAs (tests : List (ℕ × Bool)) (t out : List ℕ) (n : ℕ) (out′ : List ℕ) : Type 0 where
   pub answer : Written
   pub code : n ≡ writtenCode answer
   pub wrote : Wrote (first tests) t out answer out′
@@ -43,14 +41,14 @@ pub record WroteAs (tests : List (Refusal × Bool)) (t out : List ℕ) (n : ℕ)
 abbrev pub FramedAs : Request → List ℕ → ℕ → List ℕ → Type 0
 FramedAs q out n out′ = WroteAs (makerRefusals q (length out)) (requestFrame q) out n out′
 
--- octets of another length than they should have are an argument out of range
-unfoldable pub notLong : ℕ → List ℕ → Refusal × Bool
-notLong size s = (OutOfRange, not (eqb (length s) size))
+-- 6: octets of another length than they should have are an argument out of range
+unfoldable pub notLong : ℕ → List ℕ → ℕ × Bool
+notLong size s = (6, not (eqb (length s) size))
 
 -- the line writer: a block of another length is refused; then what `Lined` of the line writer refuses
-abbrev pub linesTests : List ℕ → List ℕ → List ℕ → List (Refusal × Bool)
+abbrev pub linesTests : List ℕ → List ℕ → List ℕ → List (ℕ × Bool)
 linesTests block text out = notLong blockSize block ∷ lineRefusals block text (length out)
 
 -- of one line: a record of another length is refused too
-abbrev pub lineTests : List ℕ → List ℕ → List ℕ → List ℕ → List (Refusal × Bool)
+abbrev pub lineTests : List ℕ → List ℕ → List ℕ → List ℕ → List (ℕ × Bool)
 lineTests block sighted text out = notLong recordWidth sighted ∷ linesTests block text out

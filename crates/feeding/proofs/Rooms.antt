@@ -8,7 +8,7 @@ use borrow.Author.Tests.{lt-ltb, le-ltb}
 use lib.ListN.{length}
 use Rattle.octets.specs.Tests.{first}
 use Rattle.octets.specs.Parts.{put}
-use Rattle.frame.specs.declared.Refusal.{Refusal}
+use Rattle.frame.proofs.Numbers.{refuses, refuses-once}
 use Rattle.frame.specs.declared.Refusal.the-variants.{NoRoom}
 use Rattle.rules.specs.declared.Written.{Written}
 use Rattle.rules.specs.declared.Written.the-variants.{Octets, Refused}
@@ -24,7 +24,7 @@ use Rattle.feeding.specs.Feeding.{readOff, ReadOff, listRefusals, Lists,
 module _ (at : Begun) (held s reply out : List ℕ) where
   pub no-room : length out < longestLine → Listed at held s reply out (Refused NoRoom) s reply out
   unfolding listRefusals first
-  no-room h = record { lists = rw (lt-ltb _ _ h) (refl, refl, refl, refl) }
+  no-room h = record { lists = rw (lt-ltb _ _ h) (refuses Refused NoRoom, refl, refl, refl) }
 
   pub with-room : (n : ℕ) (s′ reply′ out′ : List ℕ) → longestLine ≤ length out → ReadOff at held s reply out n s′ reply′ out′ → Listed at held s reply out (Octets n) s′ reply′ out′
   unfolding listRefusals first
@@ -72,9 +72,9 @@ module _ (s reply out : List ℕ) (n n″ : ℕ) (s′ s″ reply′ reply″ ou
       alike (ap view (a .0 ∙ sym (b .0))) (a .1 ∙ sym (b .1)) (printed-once _ _ out n n″ out′ out″ refl (a .2) (b .2))
 
 module _ (at : Begun) (held s reply out : List ℕ) (r r″ : Written) (s′ s″ reply′ reply″ out′ out″ : List ℕ) where
-  lists-once : (o : Option Refusal) → Lists o at held s reply out r s′ reply′ out′ → Lists o at held s reply out r″ s″ reply″ out″ → Same r r″ s′ s″ reply′ reply″ out′ out″
-  lists-once (some why) p q =
-      record { results = p .0 ∙ sym (q .0); views = ap view (p .1 ∙ sym (q .1)); replies = p .2 ∙ sym (q .2); outputs = p .3 ∙ sym (q .3) }
+  lists-once : (o : Option ℕ) → Lists o at held s reply out r s′ reply′ out′ → Lists o at held s reply out r″ s″ reply″ out″ → Same r r″ s′ s″ reply′ reply″ out′ out″
+  lists-once (some n) p q =
+      record { results = refuses-once Refused n r r″ (p .0) (q .0); views = ap view (p .1 ∙ sym (q .1)); replies = p .2 ∙ sym (q .2); outputs = p .3 ∙ sym (q .3) }
   lists-once none p q =
       let a = answered-once s reply out (p .0) (q .0) s′ s″ reply′ reply″ out′ out″ (readOff at held) (p .2 .read) (q .2 .read) in
       record { results = p .1 ∙ a .results ∙ sym (q .1); views = a .views; replies = a .replies; outputs = a .outputs }

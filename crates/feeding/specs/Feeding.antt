@@ -8,8 +8,7 @@ use lib.ListN.{length, take, set}
 use lib.Dec.{ltb}
 use Rattle.octets.specs.Tests.{allOf, first}
 use Rattle.frame.specs.Shape.{replyRoom}
-use Rattle.frame.specs.declared.Refusal.{Refusal}
-use Rattle.frame.specs.declared.Refusal.the-variants.{NoRoom}
+use Rattle.frame.specs.Refusal.{Refuses}
 use Rattle.rules.specs.declared.Written.{Written}
 use Rattle.rules.specs.declared.Written.the-variants.{Octets, Refused}
 use Rattle.feeding.specs.declared.Begun.{Begun}
@@ -58,12 +57,12 @@ pub record ReadOff (at : Begun) (held s reply out : List ℕ) (n : ℕ) (s′ re
   pub read : Answered (readOff at held) s reply out n s′ reply′ out′
   pub whole : (text : List ℕ) → Fed text at held → heldRoom ≤ length held → Answered (lineOf text) s reply out n s′ reply′ out′
 
-unfoldable pub listRefusals : List ℕ → List (Refusal × Bool)
-listRefusals out = (NoRoom, ltb (length out) longestLine) ∷ []
+unfoldable pub listRefusals : List ℕ → List (ℕ × Bool)
+listRefusals out = (7, ltb (length out) longestLine) ∷ []
 
 -- a refused call leaves store, reply buffer and output octet for octet
-abbrev pub Lists : Option Refusal → Begun → List ℕ → List ℕ → List ℕ → List ℕ → Written → List ℕ → List ℕ → List ℕ → Type 0
-Lists (some why) at held s reply out r s′ reply′ out′ = (r ≡ Refused why) × (s′ ≡ s) × (reply′ ≡ reply) × (out′ ≡ out)
+abbrev pub Lists : Option ℕ → Begun → List ℕ → List ℕ → List ℕ → List ℕ → Written → List ℕ → List ℕ → List ℕ → Type 0
+Lists (some n) at held s reply out r s′ reply′ out′ = Refuses Refused n r × (s′ ≡ s) × (reply′ ≡ reply) × (out′ ≡ out)
 Lists none at held s reply out r s′ reply′ out′ = (n : ℕ) × (r ≡ Octets n) × ReadOff at held s reply out n s′ reply′ out′
 
 pub record Listed (at : Begun) (held s reply out : List ℕ) (r : Written) (s′ reply′ out′ : List ℕ) : Type 0 where

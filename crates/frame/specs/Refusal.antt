@@ -1,5 +1,9 @@
 -- The paper's numbers of the refusals, of the whole product. Assumes nothing.
 use Prim.Native.Nat.{ℕ}
+use mathlib.Core.Path.{_≡_}
+use mathlib.Core.Bool.{Bool, true, _&&_}
+use mathlib.Core.List.{List, [], _∷_, map}
+use lib.Dec.{leb}
 use Rattle.frame.specs.declared.Refusal.{Refusal}
 use Rattle.frame.specs.declared.Refusal.the-variants.{Unsound, SmallBuffer, WrongLength, WrongCheck, NoDesk, OutOfRange, NoRoom, NotTheReply}
 
@@ -21,3 +25,19 @@ numberOf OutOfRange = 6
 numberOf NoRoom = 7
 -- a sound frame that is not the reply to the request
 numberOf NotTheReply = 8
+
+-- the answer is a refusal, and its number is n
+pub record Refuses {A : Type 0} (refusal : Refusal → A) (n : ℕ) (answer : A) : Type 0 where
+  pub why : Refusal
+  pub number-is : numberOf why ≡ n
+  pub answer-is : answer ≡ refusal why
+
+-- the numbers of a list of tests, in their order
+abbrev pub numbersOf : List (ℕ × Bool) → List ℕ
+numbersOf ts = map (λ (t : ℕ × Bool). t .0) ts
+
+-- tests run in rising number: none is less than the one before it
+abbrev pub rises : List ℕ → Bool
+rises [] = true
+rises (n ∷ []) = true
+rises (n ∷ m ∷ ns) = leb n m && rises (m ∷ ns)

@@ -8,6 +8,7 @@ use lib.ListN.{length}
 use Rattle.octets.specs.Tests.{first}
 use Rattle.octets.specs.Parts.{put}
 use Rattle.frame.specs.declared.Refusal.the-variants.{OutOfRange, NoRoom}
+use Rattle.frame.proofs.Numbers.{refuses}
 use Rattle.rules.specs.declared.Written.the-variants.{Octets, Refused}
 use Rattle.rules.specs.Config.{lineLegal}
 use Rattle.lines.specs.Lines.{lineRefusals, Lined}
@@ -15,11 +16,11 @@ use Rattle.lines.specs.Lines.{lineRefusals, Lined}
 module _ (block text out : List ℕ) where
   pub illegal : lineLegal block ≡ false → Lined block text out (Refused OutOfRange) out
   unfolding first lineRefusals
-  illegal e = rw e (record { outcome = (refl, refl) })
+  illegal e = rw e (record { outcome = (refuses Refused OutOfRange, refl) })
 
   pub no-room : lineLegal block ≡ true → length out < length text → Lined block text out (Refused NoRoom) out
   unfolding first lineRefusals
-  no-room e h = rw (e, lt-ltb _ _ h) (record { outcome = (refl, refl) })
+  no-room e h = rw (e, lt-ltb _ _ h) (record { outcome = (refuses Refused NoRoom, refl) })
 
   pub done : (n : ℕ) (out′ : List ℕ) → lineLegal block ≡ true → length text ≤ length out → n ≡ length text → out′ ≡ put 0 text out → Lined block text out (Octets n) out′
   unfolding first lineRefusals

@@ -6,8 +6,6 @@ use lib.ListN.{length, drop}
 use lib.Dec.{ltb}
 use Rattle.octets.specs.Tests.{first}
 use Rattle.octets.specs.Parts.{rows, joined}
-use Rattle.frame.specs.declared.Refusal.{Refusal}
-use Rattle.frame.specs.declared.Refusal.the-variants.{OutOfRange, NoRoom}
 use Rattle.table.specs.Entries.{recordWidth}
 use Rattle.rules.specs.declared.Written.{Written}
 use Rattle.rules.specs.Config.{lineLegal}
@@ -16,8 +14,8 @@ use Rattle.rules.specs.Output.{Wrote}
 use Rattle.rules.specs.Line.{line}
 
 -- the line writer can meet 6, 7, in rising number: block 7 breaks the rules; the text has no room
-unfoldable pub lineRefusals : List ℕ → List ℕ → ℕ → List (Refusal × Bool)
-lineRefusals block text room = (OutOfRange, not (lineLegal block)) ∷ (NoRoom, ltb room (length text)) ∷ []
+unfoldable pub lineRefusals : List ℕ → List ℕ → ℕ → List (ℕ × Bool)
+lineRefusals block text room = (6, not (lineLegal block)) ∷ (7, ltb room (length text)) ∷ []
 
 -- refused and nothing written; or the text at the start of the output, and the octets after it stay
 abbrev pub Lined : List ℕ → List ℕ → List ℕ → Written → List ℕ → Type 0

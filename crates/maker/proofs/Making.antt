@@ -15,6 +15,7 @@ use Rattle.frame.specs.declared.Kind.{Kind}
 use Rattle.frame.specs.declared.Way.the-variants.{Request}
 use Rattle.frame.specs.declared.Refusal.the-variants.{NoDesk, OutOfRange, NoRoom}
 use Rattle.frame.specs.Shape.{overhead, dataAt}
+use Rattle.frame.proofs.Numbers.{refuses}
 use Rattle.frame.specs.Sealed.{frameOf}
 use Rattle.frame.proofs.Lengths.{length-frame}
 use Rattle.seal.specs.declared.Sealed.the-variants.{Octets, Not}
@@ -62,17 +63,17 @@ no-room q room size e =
 module _ (q : Asked) (out : List ℕ) where
   pub refused-desk : desks ≤ q .desk → Requested q out (written.Refused NoDesk) out
   unfolding makerRefusals first
-  refused-desk h = record { outcome = rw (le-leb desks (q .desk) h) (refl, refl) }
+  refused-desk h = record { outcome = rw (le-leb desks (q .desk) h) (refuses written.Refused NoDesk, refl) }
 
   module _ (low : q .desk < desks) where
     pub refused-range : inRange q ≡ false → Requested q out (written.Refused OutOfRange) out
     unfolding makerRefusals first
-    refused-range e = record { outcome = rw (lt-leb desks (q .desk) low, e) (refl, refl) }
+    refused-range e = record { outcome = rw (lt-leb desks (q .desk) low, e) (refuses written.Refused OutOfRange, refl) }
 
     module _ (range : inRange q ≡ true) where
       pub refused-room : length out < length (requestFrame q) → Requested q out (written.Refused NoRoom) out
       unfolding makerRefusals first
-      refused-room h = record { outcome = rw (lt-leb desks (q .desk) low, range, lt-ltb _ _ h) (refl, refl) }
+      refused-room h = record { outcome = rw (lt-leb desks (q .desk) low, range, lt-ltb _ _ h) (refuses written.Refused NoRoom, refl) }
 
       pub made : (n : ℕ) (out′ : List ℕ) → length (requestFrame q) ≤ length out → n ≡ length (requestFrame q) → out′ ≡ put 0 (requestFrame q) out → Requested q out (written.Octets n) out′
       unfolding makerRefusals first

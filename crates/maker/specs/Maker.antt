@@ -5,17 +5,15 @@ use mathlib.Core.List.{List, [], _∷_}
 use lib.ListN.{length}
 use lib.Dec.{ltb}
 use Rattle.octets.specs.Tests.{first}
-use Rattle.frame.specs.declared.Refusal.{Refusal}
-use Rattle.frame.specs.declared.Refusal.the-variants.{NoDesk, OutOfRange, NoRoom}
 use Rattle.rules.specs.declared.Written.{Written}
 use Rattle.rules.specs.Box.{noDesk}
 use Rattle.rules.specs.Output.{Wrote}
 use Rattle.requests.specs.declared.Request.{Request}
 use Rattle.requests.specs.Request.{inRange, requestFrame}
 
--- the maker can meet 5, 6, 7, in rising number
-unfoldable pub makerRefusals : Request → ℕ → List (Refusal × Bool)
-makerRefusals q room = (NoDesk, noDesk (q .desk)) ∷ (OutOfRange, not (inRange q)) ∷ (NoRoom, ltb room (length (requestFrame q))) ∷ []
+-- the maker can meet 5, 6, 7, in rising number: no such desk; a value out of range; no room for the frame
+unfoldable pub makerRefusals : Request → ℕ → List (ℕ × Bool)
+makerRefusals q room = (5, noDesk (q .desk)) ∷ (6, not (inRange q)) ∷ (7, ltb room (length (requestFrame q))) ∷ []
 
 -- refused and nothing written; or the frame at the start of the output, and the octets after it stay
 abbrev pub Requested : Request → List ℕ → Written → List ℕ → Type 0

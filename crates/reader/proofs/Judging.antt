@@ -13,42 +13,38 @@ use Rattle.octets.specs.Numbers.{u16At}
 use Rattle.octets.proofs.Tests.{first-none, first-given}
 use Rattle.frame.specs.declared.Way.the-variants.{Reply}
 use Rattle.frame.specs.declared.Frame.{Frame}
-use Rattle.frame.specs.declared.Judged.the-variants as verdict
-use Rattle.frame.specs.declared.Refusal.{Refusal}
-use Rattle.frame.specs.declared.Refusal.the-variants.{NotTheReply}
-use Rattle.frame.specs.Judged.{faults, partsOf, dataOf, judged}
+use Rattle.frame.specs.Judged.{faults, partsOf, dataOf, refused as faulty, wellFormed, judged}
 use Rattle.frame.proofs.Verdict.{sound-parts, sound-first, refused-first}
 use Rattle.table.specs.Entries.{recordWidth}
 use Rattle.requests.specs.declared.Request.{Request}
 use Rattle.requests.specs.Request.{controlOf}
 use Rattle.possible.specs.Possible.{possible}
 use Rattle.reader.specs.declared.Told.{Told}
-use Rattle.reader.specs.declared.Reading.the-variants.{Sound, Refused}
-use Rattle.reader.specs.Reader.{sameKind, toldOf, countRight, answersTo, readerRefusals, readAs}
+use Rattle.reader.specs.Reader.{sameKind, toldOf, countRight, answersTo, readerRefusals, refused, found, readAs}
 
 -- ---- the verdict
 
-pub read-refused : (q : Request) (s : List ℕ) (r : Refusal) → judged Reply s ≡ verdict.Refused r → Refused r ≡ readAs q s
+pub read-refused : (q : Request) (s : List ℕ) (n : ℕ) → judged Reply s ≡ faulty n → refused n ≡ readAs q s
 unfolding readAs readerRefusals
-read-refused q s r e = rw (first-given r (faults Reply s) ((NotTheReply, not (answersTo q (partsOf Reply s) s)) ∷ []) (refused-first Reply s r e))
+read-refused q s n e = rw (first-given n (faults Reply s) ((8, not (answersTo q (partsOf Reply s) s)) ∷ []) (refused-first Reply s n e))
 
-module _ (q : Request) (s : List ℕ) (f : Frame) (is : judged Reply s ≡ verdict.Sound f) where
-  only : first (readerRefusals q s) ≡ first ((NotTheReply, not (answersTo q f s)) ∷ [])
+module _ (q : Request) (s : List ℕ) (f : Frame) (is : judged Reply s ≡ wellFormed f) where
+  only : first (readerRefusals q s) ≡ first ((8, not (answersTo q f s)) ∷ [])
   unfolding readerRefusals
   only =
-      first-none (faults Reply s) ((NotTheReply, not (answersTo q (partsOf Reply s) s)) ∷ []) (sound-first Reply s f is)
-      ∙ ap (λ (p : Frame). first ((NotTheReply, not (answersTo q p s)) ∷ [])) (sym (sound-parts Reply s f is))
+      first-none (faults Reply s) ((8, not (answersTo q (partsOf Reply s) s)) ∷ []) (sound-first Reply s f is)
+      ∙ ap (λ (p : Frame). first ((8, not (answersTo q p s)) ∷ [])) (sym (sound-parts Reply s f is))
 
-  pub read-answer : (t : Told) → t ≡ toldOf f s → answersTo q f s ≡ true → Sound t ≡ readAs q s
+  pub read-answer : (t : Told) → t ≡ toldOf f s → answersTo q f s ≡ true → found t ≡ readAs q s
   unfolding readAs first
   read-answer t e a = rw (only, a, e, sound-parts Reply s f is)
 
-  pub read-other : answersTo q f s ≡ false → Refused NotTheReply ≡ readAs q s
+  pub read-other : answersTo q f s ≡ false → refused 8 ≡ readAs q s
   unfolding readAs first
   read-other a = rw (only, a)
 
 -- the data of a sound reply stand behind its status
-pub reply-start : (s : List ℕ) (f : Frame) → judged Reply s ≡ verdict.Sound f → 1 ≤ f .start
+pub reply-start : (s : List ℕ) (f : Frame) → judged Reply s ≡ wellFormed f → 1 ≤ f .start
 unfolding partsOf
 reply-start s f is = rw (sound-parts Reply s f is) (omega arith)
 

@@ -40,8 +40,7 @@ use Rattle.requests.specs.Request.{controlOf, dataFor, fieldsHold}
 use Rattle.requests.proofs.Asked.{answerTo, asked-open}
 use Rattle.possible.specs.Possible.{possible}
 use Rattle.possible.proofs.Answers.{answer-possible}
-use Rattle.reader.specs.declared.Reading.the-variants.{Sound}
-use Rattle.reader.specs.Reader.{sameKind, toldOf, countRight, answersTo, readerRefusals, readAs}
+use Rattle.reader.specs.Reader.{sameKind, toldOf, countRight, answersTo, readerRefusals, found, readAs}
 
 -- ---- the record count
 
@@ -130,7 +129,7 @@ module _ (q : Request) (status : ℕ) (sent : List ℕ) where
         )
         count
 
-    replied-read : readAs q replied ≡ Sound (record { status = status; start = shapeOf (q .kind) .lead + 3; len = length sent })
+    replied-read : readAs q replied ≡ found (record { status = status; start = shapeOf (q .kind) .lead + 3; len = length sent })
     unfolding readAs readerRefusals first
     replied-read =
         let judge = reply-back (q .kind) (q .desk) (controlOf (q .ask)) status sent fits in
@@ -138,7 +137,7 @@ module _ (q : Request) (status : ℕ) (sent : List ℕ) where
 
 pub reply-read : (q : Request) (d : Desk) → DeskLegal d → length (q .bytes) ≡ blockSize → q .desk < desks → fieldsHold (q .ask) ≡ true
     → let r = answerTo q d in let s = frameOf (q .kind) (q .desk) (controlOf (q .ask)) (r .status ∷ r .sent) in
-    (readAs q s ≡ Sound (record { status = r .status; start = shapeOf (q .kind) .lead + 3; len = length (r .sent) }))
+    (readAs q s ≡ found (record { status = r .status; start = shapeOf (q .kind) .lead + 3; len = length (r .sent) }))
     × (part (shapeOf (q .kind) .lead + 3) (length (r .sent)) s ≡ r .sent)
 unfolding answered
 reply-read q d p size low holds =

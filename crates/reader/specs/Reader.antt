@@ -11,8 +11,7 @@ use Rattle.frame.specs.declared.Kind.{Kind}
 use Rattle.frame.specs.declared.Kind.the-variants.{Standard, Advanced}
 use Rattle.frame.specs.declared.Way.the-variants.{Reply}
 use Rattle.frame.specs.declared.Frame.{Frame}
-use Rattle.frame.specs.declared.Refusal.{Refusal}
-use Rattle.frame.specs.declared.Refusal.the-variants.{NotTheReply}
+use Rattle.frame.specs.Refusal.{numberOf}
 use Rattle.frame.specs.Judged.{faults, partsOf, dataOf}
 use Rattle.table.specs.Entries.{recordWidth}
 use Rattle.requests.specs.declared.Request.{Request}
@@ -42,14 +41,23 @@ answersTo q f s =
     sameKind (f .kind) (q .kind) && eqb (f .address) (q .desk) && eqb (f .control) (controlOf (q .ask))
     && possible q (toldOf f s .status) (f .len) && countRight (f .control) (dataOf f s)
 
--- the reader can meet 3, 4, 8, in rising number
-unfoldable pub readerRefusals : Request → List ℕ → List (Refusal × Bool)
-readerRefusals q s = faults Reply s ++ ((NotTheReply, not (answersTo q (partsOf Reply s) s)) ∷ [])
+-- the reader can meet 3, 4, 8, in rising number: the frame's faults; a frame that does not answer the request
+unfoldable pub readerRefusals : Request → List ℕ → List (ℕ × Bool)
+readerRefusals q s = faults Reply s ++ ((8, not (answersTo q (partsOf Reply s) s)) ∷ [])
 
-abbrev pub reading : Option Refusal → Told → Reading
-reading none t = Sound t
-reading (some r) t = Refused r
+-- what is read: refused with the paper's number; or status, and where the data lie
+pub data Finding : Type 0 where
+  refused : ℕ → Finding
+  found : Told → Finding
 
--- status, and where the data lie
-unfoldable pub readAs : Request → List ℕ → Reading
-readAs q s = reading (first (readerRefusals q s)) (toldOf (partsOf Reply s) s)
+abbrev pub finding : Option ℕ → Told → Finding
+finding none t = found t
+finding (some n) t = refused n
+
+unfoldable pub readAs : Request → List ℕ → Finding
+readAs q s = finding (first (readerRefusals q s)) (toldOf (partsOf Reply s) s)
+
+-- what the code's answer says of it
+abbrev pub findingOf : Reading → Finding
+findingOf (Sound t) = found t
+findingOf (Refused r) = refused (numberOf r)

@@ -9,9 +9,8 @@ use requests::Request;
 use requests::control_of;
 ghost use mathlib.Core.Path.{_≡_};
 ghost use Rattle.frame.specs.declared.Way.{Way};
-ghost use Rattle.frame.specs.declared.Judged.{Judged};
-ghost use Rattle.frame.specs.Judged.{judged};
-ghost use Rattle.reader.specs.Reader.{sameKind, toldOf, countRight, answersTo, readAs};
+ghost use Rattle.frame.specs.Judged.{Verdict, judged};
+ghost use Rattle.reader.specs.Reader.{sameKind, toldOf, countRight, answersTo, readAs, findingOf};
 
 // A reply's status, and where its data lie.
 pub struct Told {
@@ -58,7 +57,7 @@ fn count_right(control: u8, sent: &[u8]) -> bool
 
 // The status, and where the data lie, of a sound frame.
 fn told_of(f: Frame, reply: &[u8]) -> Told
-    requires { ⌜ judged Way.Reply (now reply) ≡ Judged.Sound f ⌝ }
+    requires { ⌜ judged Way.Reply (now reply) ≡ Verdict.wellFormed f ⌝ }
     ensures { λ r. ⌜ r ≡ toldOf f (now (reply .entry)) ⌝ }
 {
     let start = f.start;
@@ -71,7 +70,7 @@ fn told_of(f: Frame, reply: &[u8]) -> Told
 
 // Whether a sound frame answers the request.
 fn answers_to(q: Request, f: Frame, t: Told, reply: &[u8]) -> bool
-    requires { ⌜ (judged Way.Reply (now reply) ≡ Judged.Sound f) × (t ≡ toldOf f (now reply)) ⌝ }
+    requires { ⌜ (judged Way.Reply (now reply) ≡ Verdict.wellFormed f) × (t ≡ toldOf f (now reply)) ⌝ }
     ensures { λ r. ⌜ r ≡ answersTo q f (now (reply .entry)) ⌝ }
 {
     let kind = f.kind;
@@ -96,8 +95,8 @@ fn answers_to(q: Request, f: Frame, t: Told, reply: &[u8]) -> bool
 
 // A sound frame is the reply, or it is refused.
 fn read_sound(q: Request, f: Frame, reply: &[u8]) -> Reading
-    requires { ⌜ judged Way.Reply (now reply) ≡ Judged.Sound f ⌝ }
-    ensures { λ r. ⌜ r ≡ readAs q (now (reply .entry)) ⌝ }
+    requires { ⌜ judged Way.Reply (now reply) ≡ Verdict.wellFormed f ⌝ }
+    ensures { λ r. ⌜ findingOf r ≡ readAs q (now (reply .entry)) ⌝ }
 {
     let t = told_of(f, reply);
     if answers_to(q, f, t, reply) {
@@ -108,7 +107,7 @@ fn read_sound(q: Request, f: Frame, reply: &[u8]) -> Reading
 
 // Reads the reply to a request.
 pub fn read(q: Request, reply: &[u8]) -> Reading
-    ensures { λ r. ⌜ r ≡ readAs q (now (reply .entry)) ⌝ }
+    ensures { λ r. ⌜ findingOf r ≡ readAs q (now (reply .entry)) ⌝ }
 {
     match frame::judge(Way::Reply, reply) {
         Judged::Refused(r) => Reading::Refused(r),

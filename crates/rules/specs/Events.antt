@@ -2,9 +2,10 @@
 use Prim.Native.Nat.{ℕ}
 use mathlib.Core.Bool.{Bool, true, cond, _&&_}
 use mathlib.Core.List.{List, [], _∷_}
-use lib.Dec.{eqb}
+use lib.Dec.{eqb, ltb}
 use Rattle.octets.specs.Tests.{first, noneGiven}
 use Rattle.frame.specs.declared.Way.the-variants.{Request}
+use Rattle.frame.specs.Shape.{replyRoom}
 use Rattle.frame.specs.Judged.{faults}
 use Rattle.rules.specs.Box.{Box, Event, frame, sighting, tick, Answer, request, step}
 
@@ -14,10 +15,16 @@ concerns n (frame s room) = noneGiven (first (faults Request s)) && eqb (request
 concerns n (sighting m uid mask) = eqb m n
 concerns n tick = true
 
+-- of the room that is lent for a reply a desk sees whether it is enough
+unfoldable pub asSeen : Event → Event
+asSeen (frame s room) = frame s (cond (ltb room replyRoom) 0 replyRoom)
+asSeen (sighting m uid mask) = sighting m uid mask
+asSeen tick = tick
+
 -- a desk's events of a history, in order
 unfoldable pub history : ℕ → List Event → List Event
 history n [] = []
-history n (e ∷ es) = cond (concerns n e) (e ∷ history n es) (history n es)
+history n (e ∷ es) = cond (concerns n e) (asSeen e ∷ history n es) (history n es)
 
 -- the answers to a desk's events
 unfoldable pub answersOf : ℕ → Box → List Event → List Answer

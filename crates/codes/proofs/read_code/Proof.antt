@@ -1,5 +1,7 @@
 -- `codes::read_code` meets its contract. Assumes nothing.
 use mathlib.Core.Path.{sym, ap}
+use Rattle.reader.specs.Reader.{findingOf}
+use Rattle.reader.specs.declared.Reading.{Reading}
 use Rattle.codes.specs.Codes.{readCode}
 use native.Mathlib.Omega.{arith}
 use borrow.Author.Needs.{needs}
@@ -16,7 +18,7 @@ add-result-3 : tie.Need-add-result-3
 add-result-3 c = omega (arith, rw (c .before .before .a2 .given .1) at (c .before .before .before .before .pre))
 
 returns-2 : tie.Need-returns-2
-returns-2 c = sym (ap readCode (c .before .before .a2 .given .1))
+returns-2 c = sym (ap (λ (r : Reading). readCode (findingOf r)) (c .before .before .a2 .given .1))
 
 pub read-code-spec : {M : Type 1} → statement M
 read-code-spec =

@@ -1,11 +1,14 @@
 -- `depot::frame` meets its contract: refusals 1 to 4 in rising number, then the desk. Assumes nothing.
 use Prim.Native.Nat.{_≤_, _<_}
-use mathlib.Core.Path.{_≡_, sym, _∙_}
+use mathlib.Core.Path.{_≡_, sym, ap, _∙_}
 use mathlib.Core.Bool.{true}
 use native.Mathlib.Omega.{arith}
 use lib.ListN.{length}
 use Rattle.octets.proofs.Tests.{passed, failed}
+use Rattle.frame.specs.declared.Refusal.the-variants.{SmallBuffer}
 use Rattle.frame.specs.Shape.{replyRoom}
+use Rattle.frame.specs.Refusal.{numberOf}
+use Rattle.frame.specs.Judged.{verdictOf}
 use Rattle.store.specs.Sound.{sound}
 use Rattle.rules.proofs.Refusals.{small-buffer, judge-refused}
 use Rattle.depot.proofs.Calls.{unsound, frame-refused}
@@ -28,14 +31,14 @@ returns-2 : tie.Need-returns-2
 returns-2 c =
     let e = c .before in
     let a = e .before .before .before .before .before .before .args in
-    frame-refused (a .frame .now) (length (a .out .now)) _ (a .store .now) (a .out .now) (good e) (small-buffer (a .frame .now) (length (a .out .now)) (small c))
+    frame-refused (a .frame .now) (length (a .out .now)) SmallBuffer (a .store .now) (a .out .now) (good e) (small-buffer (a .frame .now) (length (a .out .now)) (small c))
 
 served-requires : tie.Need-served-requires
 served-requires c κs =
     let f = c .before .before .before in
     let j = f .before .before in
     let n = j .before in
-    (good (n .before), sym (j .judge .ensures) ∙ f .f .given .1, roomy n)
+    (good (n .before), sym (j .judge .ensures) ∙ ap verdictOf (f .f .given .1), roomy n)
 
 returns-3 : tie.Need-returns-3
 returns-3 c =
@@ -43,8 +46,8 @@ returns-3 c =
     let j = r .before .before in
     let n = j .before in
     let a = n .before .before .before .before .before .before .before .args in
-    frame-refused (a .frame .now) (length (a .out .now)) _ (a .store .now) (a .out .now) (good (n .before))
-    (judge-refused (a .frame .now) (length (a .out .now)) (roomy n) (r .r .given .0 .0) (sym (j .judge .ensures) ∙ r .r .given .1))
+    frame-refused (a .frame .now) (length (a .out .now)) (r .r .given .0 .0) (a .store .now) (a .out .now) (good (n .before))
+    (judge-refused (a .frame .now) (length (a .out .now)) (roomy n) (numberOf (r .r .given .0 .0)) (sym (j .judge .ensures) ∙ ap verdictOf (r .r .given .1)))
 
 pub frame-spec : {M : Type 1} → statement M
 frame-spec =

@@ -1,11 +1,18 @@
 -- `depot::fresh` meets its contract: by its size alone. Assumes nothing.
+use mathlib.Core.Path.{refl}
 use borrow.Author.Tests.{eq-eqb, ne-eqb}
+use Rattle.octets.specs.Tests.{first}
+use Rattle.frame.specs.declared.Refusal.the-variants.{Unsound}
+use Rattle.frame.proofs.Numbers.{refuses}
+use Rattle.depot.specs.declared.Answer.the-variants.{Refused}
+use Rattle.depot.specs.Called.{freshRefusals}
 use borrow.Author.Needs.{needs}
 use Rattle.depot.proofs.fresh.Statement.{statement}
 use Rattle.depot.proofs.fresh.Tie as tie
 
 returns : tie.Need-returns
-returns c = record { answer-is = rw (ne-eqb _ _ (c .if1 .taken)); store-is = rw (ne-eqb _ _ (c .if1 .taken)) }
+unfolding first freshRefusals
+returns c = record { made = rw (ne-eqb _ _ (c .if1 .taken)) (refuses Refused Unsound, refl) }
 
 make-requires : tie.Need-make-requires
 make-requires c κs = search needs
@@ -14,10 +21,11 @@ same-length : tie.Need-same-length
 same-length c = search needs
 
 returns-2 : tie.Need-returns-2
+unfolding first freshRefusals
 returns-2 c =
     let m = c .before .before in
     let e = m .before .before in
-    record { answer-is = rw (eq-eqb _ _ (e .if1 .left)); store-is = rw (eq-eqb _ _ (e .if1 .left)) (m .make .ensures) }
+    record { made = rw (eq-eqb _ _ (e .if1 .left)) (refl, m .make .ensures) }
 
 pub fresh-spec : {M : Type 1} → statement M
 fresh-spec = tie.close (tie.spec returns make-requires same-length returns-2)

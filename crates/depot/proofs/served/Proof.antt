@@ -4,6 +4,7 @@ use mathlib.Core.Path.{sym, _∙_}
 use native.Mathlib.Omega.{arith}
 use lib.ListN.{length}
 use borrow.Author.Tests.{leb-true, leb-false}
+use Rattle.frame.specs.declared.Refusal.the-variants.{NoDesk}
 use Rattle.frame.specs.declared.Way.the-variants.{Request}
 use Rattle.frame.proofs.Verdict.{sound-fits, data-lent}
 use Rattle.table.specs.Entries.{desks}
@@ -20,7 +21,7 @@ returns : tie.Need-returns
 returns c =
     let z = c .before .before .before .before .before in
     let a = z .args in
-    frame-refused (a .frame .now) (length (a .out .now)) _ (a .store .now) (a .out .now) (z .pre .0)
+    frame-refused (a .frame .now) (length (a .out .now)) NoDesk (a .store .now) (a .out .now) (z .pre .0)
     (no-desk (a .frame .now) (length (a .out .now)) (z .pre .2) (a .f) (z .pre .1) (leb-true _ _ (sym (c .before .no-desk .ensures) ∙ c .if1 .taken)))
 
 returns-2 : tie.Need-returns-2

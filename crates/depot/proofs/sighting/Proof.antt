@@ -4,6 +4,7 @@ use mathlib.Core.Path.{_≡_, sym, _∙_}
 use mathlib.Core.Bool.{true}
 use borrow.Author.Tests.{leb-true, leb-false}
 use Rattle.octets.proofs.Tests.{passed, failed}
+use Rattle.frame.specs.declared.Refusal.the-variants.{NoDesk, OutOfRange}
 use Rattle.table.specs.Entries.{desks}
 use Rattle.store.specs.Sound.{sound}
 use Rattle.rules.proofs.Refusals.{sighting-desk, sighting-mask, sighting-accepted}
@@ -23,13 +24,13 @@ returns-2 : tie.Need-returns-2
 returns-2 c =
     let e = c .before .before in
     let a = e .before .before .before .before .args in
-    sighting-refused (a .desk) (a .uid) (a .mask) _ _ _ (good e) (sighting-desk (a .desk) (a .mask) (leb-true _ _ (sym (c .before .no-desk .ensures) ∙ c .if2 .taken)))
+    sighting-refused (a .desk) (a .uid) (a .mask) NoDesk _ _ (good e) (sighting-desk (a .desk) (a .mask) (leb-true _ _ (sym (c .before .no-desk .ensures) ∙ c .if2 .taken)))
 
 returns-3 : tie.Need-returns-3
 returns-3 c =
     let e = c .before .before .before in
     let a = e .before .before .before .before .args in
-    sighting-refused (a .desk) (a .uid) (a .mask) _ _ _ (good e) (sighting-mask (a .desk) (a .mask) (low (c .before)) (c .if3 .taken))
+    sighting-refused (a .desk) (a .uid) (a .mask) OutOfRange _ _ (good e) (sighting-mask (a .desk) (a .mask) (low (c .before)) (c .if3 .taken))
 
 returns-4 : tie.Need-returns-4
 returns-4 c =

@@ -1,15 +1,16 @@
 -- `reader::read` meets its contract. Assumes nothing.
-use mathlib.Core.Path.{sym, _∙_}
+use mathlib.Core.Path.{sym, ap, _∙_}
+use Rattle.frame.specs.Judged.{verdictOf}
 use Rattle.reader.proofs.Judging.{read-refused}
 use borrow.Author.Needs.{needs}
 use Rattle.reader.proofs.read.Statement.{statement}
 use Rattle.reader.proofs.read.Tie as tie
 
 read-sound-requires : tie.Need-read-sound-requires
-read-sound-requires c κs = sym (c .before .before .before .judge .ensures) ∙ c .before .f .given .1
+read-sound-requires c κs = sym (c .before .before .before .judge .ensures) ∙ ap verdictOf (c .before .f .given .1)
 
 returns : tie.Need-returns
-returns c = read-refused _ _ _ (sym (c .before .before .before .judge .ensures) ∙ c .before .r .given .1)
+returns c = read-refused _ _ _ (sym (c .before .before .before .judge .ensures) ∙ ap verdictOf (c .before .r .given .1))
 
 pub read-spec : {M : Type 1} → statement M
 read-spec =

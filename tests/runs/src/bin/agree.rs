@@ -6,8 +6,6 @@ use second::gen::Gen;
 use second::listing::{event, serve, Answer, Event};
 use second::model::{Depot, Seen};
 
-const REFUSALS: [&str; 9] = ["", "Unsound", "SmallBuffer", "WrongLength", "WrongCheck", "NoDesk", "OutOfRange", "NoRoom", "NotTheReply"];
-
 fn list(octets: &[u8]) -> String {
     octets.iter().map(|octet| format!("{octet} ∷ ")).collect::<String>() + "[]"
 }
@@ -24,7 +22,7 @@ fn event_text(event: &Event) -> String {
 fn answer_text(answer: &Answer) -> String {
     match answer {
         Answer::Reply(octets) => format!("reply ({})", list(octets)),
-        Answer::Refused(refusal) => format!("refused {}", REFUSALS[usize::from(refusal.number())]),
+        Answer::Refused(refusal) => format!("refused {}", refusal.number()),
         Answer::Ok => "ok".into(),
         Answer::Seen(Seen::Ignored) => "seen Ignored".into(),
         Answer::Seen(Seen::Lost) => "seen Lost".into(),
@@ -63,7 +61,6 @@ const MODULE: &str = "\
 use mathlib.Core.Path.{_≡_, refl}
 use mathlib.Core.List.{List, [], _∷_}
 use Rattle.frame.specs.Shape.{replyRoom}
-use Rattle.frame.specs.declared.Refusal.the-variants.{WrongLength, WrongCheck, NoDesk, OutOfRange}
 use Rattle.rules.specs.declared.Seen.the-variants.{Ignored, Lost, Recorded}
 use Rattle.rules.specs.Box.{Event, frame, sighting, tick, Answer, refused, reply, seen, ok, freshBox, run}
 use Rattle.rules.proofs.Computed.{computed}

@@ -1,0 +1,55 @@
+-- The numbers that each call can give, exactly and in rising order: frames 1 to 5, sightings 1, 5, 6, ticks 1, a fresh store 1, the maker
+-- 5, 6, 7, the reader 3, 4, 8. Assumes nothing.
+use Prim.Native.Nat.{ℕ}
+use mathlib.Core.Path.{_≡_, refl}
+use mathlib.Core.Bool.{true}
+use mathlib.Core.List.{List, [], _∷_}
+use Rattle.frame.specs.Refusal.{numbersOf, rises}
+use Rattle.frame.specs.Judged.{faults}
+use Rattle.rules.specs.Box.{Event, frame, sighting, tick, frameRefusals, sightingRefusals}
+use Rattle.depot.specs.Called.{freshRefusals}
+use Rattle.requests.specs.declared.Request.{Request}
+use Rattle.maker.specs.Maker.{makerRefusals}
+use Rattle.reader.specs.Reader.{readerRefusals}
+use Rattle.demands.specs.Answers.{testsOf}
+
+-- 3 stands for each of the paper's three lengths
+pub frame-numbers : (s f : List ℕ) (room : ℕ) → numbersOf (testsOf s (frame f room)) ≡ 1 ∷ 2 ∷ 3 ∷ 3 ∷ 3 ∷ 4 ∷ 5 ∷ []
+unfolding testsOf frameRefusals faults
+frame-numbers s f room = refl
+
+pub sighting-numbers : (s : List ℕ) (n uid mask : ℕ) → numbersOf (testsOf s (sighting n uid mask)) ≡ 1 ∷ 5 ∷ 6 ∷ []
+unfolding testsOf sightingRefusals
+sighting-numbers s n uid mask = refl
+
+pub tick-numbers : (s : List ℕ) → numbersOf (testsOf s tick) ≡ 1 ∷ []
+unfolding testsOf
+tick-numbers s = refl
+
+pub fresh-numbers : (s : List ℕ) → numbersOf (freshRefusals s) ≡ 1 ∷ []
+unfolding freshRefusals
+fresh-numbers s = refl
+
+pub maker-numbers : (q : Request) (room : ℕ) → numbersOf (makerRefusals q room) ≡ 5 ∷ 6 ∷ 7 ∷ []
+unfolding makerRefusals
+maker-numbers q room = refl
+
+pub reader-numbers : (q : Request) (s : List ℕ) → numbersOf (readerRefusals q s) ≡ 3 ∷ 3 ∷ 3 ∷ 4 ∷ 8 ∷ []
+unfolding readerRefusals faults
+reader-numbers q s = refl
+
+-- ---- and they rise
+
+pub event-rises : (s : List ℕ) (e : Event) → rises (numbersOf (testsOf s e)) ≡ true
+event-rises s (frame f room) = rw (frame-numbers s f room)
+event-rises s (sighting n uid mask) = rw (sighting-numbers s n uid mask)
+event-rises s tick = rw (tick-numbers s)
+
+pub fresh-rises : (s : List ℕ) → rises (numbersOf (freshRefusals s)) ≡ true
+fresh-rises s = rw (fresh-numbers s)
+
+pub maker-rises : (q : Request) (room : ℕ) → rises (numbersOf (makerRefusals q room)) ≡ true
+maker-rises q room = rw (maker-numbers q room)
+
+pub reader-rises : (q : Request) (s : List ℕ) → rises (numbersOf (readerRefusals q s)) ≡ true
+reader-rises q s = rw (reader-numbers q s)
