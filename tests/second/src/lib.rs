@@ -21,4 +21,5 @@ pub mod sides;
 pub mod situations;
 pub mod store;
 pub mod stories;
+pub mod tally;
 pub mod timer;
