@@ -1,10 +1,15 @@
 //! `agree SEED OCTETS` prints a module of proofs: the rules give the second program's answers to random events, by computation
 //! alone. Lines that are no event are left out, and it ends where frames and replies pass OCTETS octets.
 
+use runs::floors::answers;
 use runs::numbers;
+use second::frame::{seal, Kind, Refusal};
 use second::gen::Gen;
-use second::listing::{event, serve, Answer, Event};
+use second::listing::{event, serve, text, Answer, Event};
 use second::model::{Depot, Seen};
+use second::place::REPLY_BUFFER;
+use second::record_stories::fill;
+use second::tally::Tally;
 
 const REFUSALS: [&str; 9] = ["", "Unsound", "SmallBuffer", "WrongLength", "WrongCheck", "NoDesk", "OutOfRange", "NoRoom", "NotTheReply"];
 
@@ -12,9 +17,10 @@ fn list(octets: &[u8]) -> String {
     octets.iter().map(|octet| format!("{octet} ∷ ")).collect::<String>() + "[]"
 }
 
-fn event_text(event: &Event) -> String {
+fn event_text(event: &Event, room: usize) -> String {
     match event {
-        Event::Frame(octets) => format!("frame ({}) replyRoom", list(octets)),
+        Event::Frame(octets) if room == REPLY_BUFFER => format!("frame ({}) replyRoom", list(octets)),
+        Event::Frame(octets) => format!("frame ({}) {room}", list(octets)),
         Event::Sighting { desk, uid, mask } => format!("sighting {desk} 0x{:X} {mask}", u64::from_be_bytes(*uid)),
         Event::Tick => "tick".into(),
         Event::NotRead => unreachable!("left out"),
@@ -39,22 +45,144 @@ fn octets_of(event: &Event, answer: &Answer) -> usize {
     frame + reply + 1
 }
 
+type Story = fn(&mut Gen, usize);
+
+/// Short stories, so that every module meets what random events may pass by: `MET`.
+const STORIES: [Story; 4] = [passwords, system_reset, antennas, refusals];
+
+fn passwords(gen: &mut Gen, desk: usize) {
+    let mut wrong = gen.desk(desk).eeprom[0];
+    wrong[gen.random.below(4)] ^= 1 << gen.random.below(8);
+    gen.request(desk, 0xA0, &wrong[..4]);
+    gen.request(desk, 0x80, &[0x8C]);
+    gen.login(desk);
+    gen.request(desk, 0x80, &[0x00]);
+}
+
+fn system_reset(gen: &mut Gen, desk: usize) {
+    gen.sight_new(desk, 1);
+    gen.request(desk, 0x64, &[]);
+    gen.request(desk, 0x31, &[]);
+    let kind = gen.any_kind();
+    gen.read(kind, desk, 1);
+}
+
+fn antennas(gen: &mut Gen, desk: usize) {
+    let uid = gen.new_uid();
+    gen.sight_by(desk, uid, 0);
+    gen.sight(desk, uid);
+    gen.sight(desk, uid);
+    gen.ticks(1);
+}
+
+fn refusals(gen: &mut Gen, desk: usize) {
+    let mut frame = seal(gen.any_kind(), desk as u8, 0x33, &[]);
+    let end = frame.len() - 1;
+    gen.octets(&frame[..end]);
+    frame[end] ^= 1 << gen.random.below(8);
+    gen.octets(&frame);
+    gen.request(8, 0x33, &[]);
+    gen.request(desk, 0x34, &[]);
+    gen.request(desk, 0x86, &[0]);
+    gen.request(desk, 0x52, &[1]);
+}
+
+/// The one long story: 64 records and one lost; 19 are read with the mark, and 19 more without.
+fn overflow(gen: &mut Gen, desk: usize) {
+    fill(gen, desk);
+    gen.sight_new(desk, 1);
+    gen.read(Kind::Standard, desk, 64);
+    gen.request(desk, 0x32, &[]);
+    gen.read(Kind::Standard, desk, 64);
+}
+
+fn tell(gen: &mut Gen, story: Story) {
+    let desk = gen.any_desk();
+    story(gen, desk);
+}
+
+/// Every status, every refusal of the box and every outcome of a sighting.
+const MET: [&str; 19] = [
+    "0x64 answers 0x00",
+    "0x52 answers 0x11",
+    "0x80 answers 0x13",
+    "0xA0 answers 0x14",
+    "0x80 answers 0x15",
+    "unknown answers 0x80",
+    "0x86 answers 0x81",
+    "0x22 answers 0x92",
+    "0x22 answers 0x93",
+    "0x22 answers 0x94",
+    "refused 2",
+    "refused 3",
+    "refused 4",
+    "refused 5",
+    "refused 6",
+    "ignored",
+    "lost",
+    "recorded",
+    "ok",
+];
+
+fn met(event: &Event, answer: &Answer) -> String {
+    match (event, answer) {
+        (Event::Frame(octets), Answer::Reply(reply)) => {
+            let head = Kind::of(octets[0]).head();
+            answers(octets[head + 1], reply[head + 2])
+        }
+        _ => text(answer),
+    }
+}
+
+struct Module {
+    events: String,
+    answers: String,
+    count: usize,
+    octets: usize,
+    met: Tally,
+}
+
+impl Module {
+    fn add(&mut self, depot: &mut Depot, event: &Event, room: usize) {
+        let answer = match event {
+            Event::Frame(_) if room < REPLY_BUFFER => Answer::Refused(Refusal::ReplyBuffer),
+            _ => serve(depot, event),
+        };
+        self.octets += octets_of(event, &answer);
+        self.events += &format!("    {} ∷\n", event_text(event, room));
+        self.answers += &format!("    {} ∷\n", answer_text(&answer));
+        self.count += 1;
+        self.met.count(&met(event, &answer));
+    }
+}
+
+/// The stories stand at its start, and the short ones now and then further on. Now and then a frame comes with too little room first.
+fn module(seed: u64, most: usize) -> Module {
+    let (mut gen, mut depot) = (Gen::new(seed), Depot::fresh());
+    let met = Tally::new(MET.map(|name| (name.into(), 1)));
+    let mut module = Module { events: String::new(), answers: String::new(), count: 0, octets: 0, met };
+    STORIES.iter().chain(&[overflow as Story]).for_each(|&story| tell(&mut gen, story));
+    while module.octets < most {
+        if gen.random.one_in(25) {
+            let story = gen.random.pick(&STORIES);
+            tell(&mut gen, story);
+        }
+        let event = event(&gen.next_line());
+        if matches!(event, Event::Frame(_)) && (module.count == 0 || gen.random.one_in(12)) {
+            module.add(&mut depot, &event, gen.random.pick(&[0, REPLY_BUFFER - 1]));
+        }
+        if event != Event::NotRead {
+            module.add(&mut depot, &event, gen.random.pick(&[REPLY_BUFFER, REPLY_BUFFER, REPLY_BUFFER, 1000]));
+        }
+    }
+    module
+}
+
 fn main() {
     let [seed, most] = numbers("agree SEED OCTETS");
-    let (mut gen, mut depot) = (Gen::new(seed), Depot::fresh());
-    let (mut events, mut answers, mut left) = (String::new(), String::new(), most as usize);
-    let mut count = 0;
-    while left > 0 {
-        let event = event(&gen.next_line());
-        if event == Event::NotRead {
-            continue;
-        }
-        let answer = serve(&mut depot, &event);
-        left = left.saturating_sub(octets_of(&event, &answer));
-        events += &format!("    {} ∷\n", event_text(&event));
-        answers += &format!("    {} ∷\n", answer_text(&answer));
-        count += 1;
-    }
+    let Module { events, answers, count, met, .. } = module(seed, most as usize);
+    let missing = met.missing();
+    assert!(missing.is_empty(), "not met: {missing:?}");
     print!("{}", MODULE.replace("COUNT", &count.to_string()).replace("EVENTS", &events).replace("ANSWERS", &answers));
 }
 
@@ -63,7 +191,7 @@ const MODULE: &str = "\
 use mathlib.Core.Path.{_≡_, refl}
 use mathlib.Core.List.{List, [], _∷_}
 use Rattle.frame.specs.Shape.{replyRoom}
-use Rattle.frame.specs.declared.Refusal.the-variants.{WrongLength, WrongCheck, NoDesk, OutOfRange}
+use Rattle.frame.specs.declared.Refusal.the-variants.{SmallBuffer, WrongLength, WrongCheck, NoDesk, OutOfRange}
 use Rattle.rules.specs.declared.Seen.the-variants.{Ignored, Lost, Recorded}
 use Rattle.rules.specs.Box.{Event, frame, sighting, tick, Answer, refused, reply, seen, ok, freshBox, run}
 use Rattle.rules.proofs.Computed.{computed}

@@ -100,7 +100,7 @@ impl Hostile {
         };
         let (code, _, _) = self.compared(&store, &call, 0);
         let why = match code {
-            5 if mask == 0 || mask > 255 => ", such a mask as well",
+            5 if mask == 0 || mask > 255 => ", a mask of 0 or above 255 as well",
             5 if desk > 255 => ", above 255",
             6 if mask > 255 => ", above 255",
             _ => "",
