@@ -9,6 +9,7 @@ use second::listing::{event, serve, text, Answer, Event};
 use second::model::{Depot, Seen};
 use second::place::REPLY_BUFFER;
 use second::record_stories::fill;
+use second::shapes::CONTROLS;
 use second::tally::Tally;
 
 const REFUSALS: [&str; 9] = ["", "Unsound", "SmallBuffer", "WrongLength", "WrongCheck", "NoDesk", "OutOfRange", "NoRoom", "NotTheReply"];
@@ -47,8 +48,8 @@ fn octets_of(event: &Event, answer: &Answer) -> usize {
 
 type Story = fn(&mut Gen, usize);
 
-/// Short stories, so that every module meets what random events may pass by: `MET`.
-const STORIES: [Story; 4] = [passwords, system_reset, antennas, refusals];
+/// Short stories, so that every module meets what random events may pass by (`must_meet`).
+const STORIES: [Story; 5] = [passwords, blocks, system_reset, antennas, refusals];
 
 fn passwords(gen: &mut Gen, desk: usize) {
     let mut wrong = gen.desk(desk).eeprom[0];
@@ -59,10 +60,26 @@ fn passwords(gen: &mut Gen, desk: usize) {
     gen.request(desk, 0x80, &[0x00]);
 }
 
+/// A VALID-TIME in RAM, saved, in force; then the default again, which waits for a reset.
+fn blocks(gen: &mut Gen, desk: usize) {
+    let mut block = gen.any_block();
+    block[0] = 0;
+    gen.logged_in(desk);
+    gen.write(desk, 0x0C, &block);
+    gen.request(desk, 0x82, &[0x0C]);
+    gen.request(desk, 0x63, &[]);
+    gen.logged_in(desk);
+    gen.request(desk, 0x83, &[0x8C]);
+    gen.request(desk, 0x80, &[0x8C]);
+    gen.request(desk, 0x52, &[0]);
+}
+
 fn system_reset(gen: &mut Gen, desk: usize) {
     gen.sight_new(desk, 1);
+    gen.request(desk, 0x85, &[23, 59, 0, 0]);
     gen.request(desk, 0x64, &[]);
     gen.request(desk, 0x31, &[]);
+    gen.request(desk, 0x86, &[]);
     let kind = gen.any_kind();
     gen.read(kind, desk, 1);
 }
@@ -87,13 +104,15 @@ fn refusals(gen: &mut Gen, desk: usize) {
     gen.request(desk, 0x52, &[1]);
 }
 
-/// The one long story: 64 records and one lost; 19 are read with the mark, and 19 more without.
+/// The one long story: 64 records and one lost; 19 are read with the mark and removed, 19 and then one without it.
 fn overflow(gen: &mut Gen, desk: usize) {
     fill(gen, desk);
     gen.sight_new(desk, 1);
     gen.read(Kind::Standard, desk, 64);
     gen.request(desk, 0x32, &[]);
     gen.read(Kind::Standard, desk, 64);
+    gen.read(Kind::Standard, desk, 1);
+    gen.request(desk, 0x33, &[]);
 }
 
 fn tell(gen: &mut Gen, story: Story) {
@@ -101,9 +120,8 @@ fn tell(gen: &mut Gen, story: Story) {
     story(gen, desk);
 }
 
-/// Every status, every refusal of the box and every outcome of a sighting.
-const MET: [&str; 19] = [
-    "0x64 answers 0x00",
+/// Every other status than 0x00, every refusal of the box and every outcome of a sighting.
+const MET: [&str; 18] = [
     "0x52 answers 0x11",
     "0x80 answers 0x13",
     "0xA0 answers 0x14",
@@ -123,6 +141,12 @@ const MET: [&str; 19] = [
     "recorded",
     "ok",
 ];
+
+/// These, and every command done.
+fn must_meet() -> Tally {
+    let done = CONTROLS.map(|control| answers(control, 0x00));
+    Tally::new(MET.map(String::from).into_iter().chain(done).map(|name| (name, 1)))
+}
 
 fn met(event: &Event, answer: &Answer) -> String {
     match (event, answer) {
@@ -159,8 +183,7 @@ impl Module {
 /// The stories stand at its start, and the short ones now and then further on. Now and then a frame comes with too little room first.
 fn module(seed: u64, most: usize) -> Module {
     let (mut gen, mut depot) = (Gen::new(seed), Depot::fresh());
-    let met = Tally::new(MET.map(|name| (name.into(), 1)));
-    let mut module = Module { events: String::new(), answers: String::new(), count: 0, octets: 0, met };
+    let mut module = Module { events: String::new(), answers: String::new(), count: 0, octets: 0, met: must_meet() };
     STORIES.iter().chain(&[overflow as Story]).for_each(|&story| tell(&mut gen, story));
     while module.octets < most {
         if gen.random.one_in(25) {

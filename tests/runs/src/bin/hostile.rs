@@ -11,7 +11,7 @@ use second::blocks::BLOCK_BYTES;
 use second::config_stories::any_block7;
 use second::frame::Kind;
 use second::gen::Gen;
-use second::model::RECORD;
+use second::model::{DESKS, RECORD};
 use second::place::{self, REPLY_BUFFER};
 use second::random::Random;
 use second::sides::{any_desk, any_octet, any_reply, any_request, interesting, zeros};
@@ -29,6 +29,15 @@ impl History {
         let mut store = vec![0; SIZE];
         place::fresh(&mut store).expect("the size is right");
         History { gen: Gen::new(seed), store }
+    }
+
+    /// Where a story ends the generator's box is what the store says: only so do its logins succeed.
+    fn in_step(&self) {
+        if self.gen.told() {
+            let depot = load(&self.store).expect("a store left by events is sound");
+            let known = (0..DESKS).all(|desk| depot.desks[desk] == *self.gen.desk(desk));
+            assert!(known, "the generator does not know its store");
+        }
     }
 }
 
@@ -65,6 +74,7 @@ impl Hostile {
         let room = self.gen.random.pick(&[REPLY_BUFFER, REPLY_BUFFER, REPLY_BUFFER + 1, 1000]);
         let (code, store, out) = self.compared(&self.long.store, &call, room);
         self.long.store = store;
+        self.long.in_step();
         let what = match &call {
             Call::Frame(octets) if !is_refusal(code) => answered(octets, &out),
             _ => outcome(code),
@@ -86,6 +96,7 @@ impl Hostile {
             Call::Tick => format!("tick: {}", outcome(code)),
         });
         second_box(&mut self.tried.store, &call, &mut [0; REPLY_BUFFER]);
+        self.tried.in_step();
     }
 
     /// A sighting in numbers that no line can say.
