@@ -2,10 +2,9 @@
 
 use std::collections::BTreeMap;
 
-#[derive(Default)]
-pub struct Row {
-    pub met: u64,
-    pub floor: u64,
+struct Row {
+    met: u64,
+    floor: u64,
 }
 
 /// Every situation that must be met stands in the table from the start.
