@@ -25,7 +25,7 @@ WORKERS = 2
 # Quicker to build than to run well: no optimizing, and only what is needed.
 RUSTC = ["rustc", "--edition", "2021", "-C", "opt-level=0", "-C", "debuginfo=0", "--cap-lints", "allow"]
 LISTING = {"blocks", "command", "crc", "frame", "listing", "model", "timer"}
-NOT_IN_SIDES = {"coverage", "situations"}
+NOT_IN_SIDES = {"coverage", "situations", "tally"}
 
 
 def read_slips(names):

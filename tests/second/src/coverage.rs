@@ -5,39 +5,34 @@ use crate::frame::{judge_request, Frame, Kind, Refusal};
 use crate::listing::{event, serve, Answer, Event};
 use crate::model::{Depot, Desk, Seen, DESKS, LOCKS, TAB_SIZE};
 use crate::situations::{self, not_read_shape};
-use std::collections::BTreeMap;
+use crate::tally::Tally;
 
 pub struct Coverage {
     depot: Depot,
-    counts: BTreeMap<String, u64>,
+    tally: Tally,
     last_control: [u8; DESKS],
 }
 
 impl Coverage {
-    /// Every situation that must be reached stands in the table from the start.
+    /// Every situation must be reached once.
     pub fn new() -> Coverage {
         Coverage {
             depot: Depot::fresh(),
-            counts: situations::required().into_iter().map(|name| (name, 0)).collect(),
+            tally: Tally::new(situations::required().into_iter().map(|name| (name, 1))),
             last_control: [0; DESKS],
         }
     }
 
-    pub fn counts(&self) -> &BTreeMap<String, u64> {
-        &self.counts
+    pub fn tally(&self) -> &Tally {
+        &self.tally
     }
 
     fn count(&mut self, name: &str) {
-        match self.counts.get_mut(name) {
-            Some(count) => *count += 1,
-            None => _ = self.counts.insert(name.into(), 1),
-        }
+        self.tally.count(name);
     }
 
     fn count_if(&mut self, reached: bool, name: &str) {
-        if reached {
-            self.count(name);
-        }
+        self.tally.count_if(reached, name);
     }
 
     pub fn line(&mut self, line: &[u8]) {

@@ -32,6 +32,11 @@ impl Gen {
         }
     }
 
+    /// Whether all that was played at the own box has been handed out.
+    pub fn told(&self) -> bool {
+        self.queue.is_empty()
+    }
+
     /// Plays a line at the own box and hands it out.
     pub fn line(&mut self, line: Vec<u8>) {
         serve(&mut self.depot, &event(&line));

@@ -1,5 +1,5 @@
-//! The shared depot box, written a second time from the paper alone, to be
-//! read beside it and to be run against the proved program.
+//! The shared depot box, written a second time from the paper, to be read
+//! beside it and to be run against the proved program (tests/README.md).
 
 pub mod blocks;
 pub mod command;
@@ -21,4 +21,5 @@ pub mod sides;
 pub mod situations;
 pub mod store;
 pub mod stories;
+pub mod tally;
 pub mod timer;

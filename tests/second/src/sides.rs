@@ -164,7 +164,7 @@ pub fn any_octet(random: &Random, old: u8) -> u8 {
 
 pub fn any_desk(random: &Random) -> u64 {
     match random.below(6) {
-        0 => random.pick(&[7, 8, 9, 255, 256, 263, u64::MAX]),
+        0 => random.pick(&[7, 8, 9, 255, 256, 263, 1 << 32, u64::MAX]),
         _ => random.below(8) as u64,
     }
 }
@@ -183,7 +183,7 @@ pub fn any_request(gen: &mut Gen) -> Request {
     let number = any_number(random);
     let adr = match random.below(8) {
         0 => number,
-        _ => u64::from(random.octet() & random.pick(&[0xFF, 0xCF, 0x8F, 0x87])),
+        _ => u64::from(random.octet() & random.pick(&[0xFF, 0xCF, 0x8F, 0x87, 0x80])),
     };
     match random.below(18) {
         0 => Request::Baud { value: number & random.pick(&[0, 1, 0xFFFF]) },

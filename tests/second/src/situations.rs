@@ -4,7 +4,7 @@ use crate::frame::{Kind, Refusal, LONGEST};
 use crate::shapes::CONTROLS;
 
 /// The status octets of each command beside 0x81.
-fn statuses(control: u8) -> &'static [u8] {
+pub fn statuses(control: u8) -> &'static [u8] {
     match control {
         0x52 | 0x85 => &[0x00, 0x11],
         0x80 => &[0x00, 0x11, 0x13, 0x15],

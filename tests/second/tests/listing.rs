@@ -69,6 +69,6 @@ fn random_events_reach_every_situation() {
     let mut gen = Gen::new(1);
     let mut coverage = Coverage::new();
     (0..100_000).for_each(|_| coverage.line(&gen.next_line()));
-    let missing: Vec<_> = coverage.counts().iter().filter(|(_, &count)| count == 0).collect();
+    let missing = coverage.tally().missing();
     assert!(missing.is_empty(), "{missing:?}");
 }

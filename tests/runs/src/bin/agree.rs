@@ -1,18 +1,25 @@
 //! `agree SEED OCTETS` prints a module of proofs: the rules give the second program's answers to random events, by computation
 //! alone. Lines that are no event are left out, and it ends where frames and replies pass OCTETS octets.
 
+use runs::floors::answers;
 use runs::numbers;
+use second::frame::{seal, Kind, Refusal};
 use second::gen::Gen;
-use second::listing::{event, serve, Answer, Event};
+use second::listing::{event, serve, text, Answer, Event};
 use second::model::{Depot, Seen};
+use second::place::REPLY_BUFFER;
+use second::record_stories::fill;
+use second::shapes::CONTROLS;
+use second::tally::Tally;
 
 fn list(octets: &[u8]) -> String {
     octets.iter().map(|octet| format!("{octet} ∷ ")).collect::<String>() + "[]"
 }
 
-fn event_text(event: &Event) -> String {
+fn event_text(event: &Event, room: usize) -> String {
     match event {
-        Event::Frame(octets) => format!("frame ({}) replyRoom", list(octets)),
+        Event::Frame(octets) if room == REPLY_BUFFER => format!("frame ({}) replyRoom", list(octets)),
+        Event::Frame(octets) => format!("frame ({}) {room}", list(octets)),
         Event::Sighting { desk, uid, mask } => format!("sighting {desk} 0x{:X} {mask}", u64::from_be_bytes(*uid)),
         Event::Tick => "tick".into(),
         Event::NotRead => unreachable!("left out"),
@@ -37,22 +44,166 @@ fn octets_of(event: &Event, answer: &Answer) -> usize {
     frame + reply + 1
 }
 
+type Story = fn(&mut Gen, usize);
+
+/// Short stories, so that every module meets what random events may pass by (`must_meet`).
+const STORIES: [Story; 5] = [passwords, blocks, system_reset, antennas, refusals];
+
+fn passwords(gen: &mut Gen, desk: usize) {
+    let mut wrong = gen.desk(desk).eeprom[0];
+    wrong[gen.random.below(4)] ^= 1 << gen.random.below(8);
+    gen.request(desk, 0xA0, &wrong[..4]);
+    gen.request(desk, 0x80, &[0x8C]);
+    gen.login(desk);
+    gen.request(desk, 0x80, &[0x00]);
+}
+
+/// A VALID-TIME in RAM, saved, in force; then the default again, which waits for a reset.
+fn blocks(gen: &mut Gen, desk: usize) {
+    let mut block = gen.any_block();
+    block[0] = 0;
+    gen.logged_in(desk);
+    gen.write(desk, 0x0C, &block);
+    gen.request(desk, 0x82, &[0x0C]);
+    gen.request(desk, 0x63, &[]);
+    gen.logged_in(desk);
+    gen.request(desk, 0x83, &[0x8C]);
+    gen.request(desk, 0x80, &[0x8C]);
+    gen.request(desk, 0x52, &[0]);
+}
+
+fn system_reset(gen: &mut Gen, desk: usize) {
+    gen.sight_new(desk, 1);
+    gen.request(desk, 0x85, &[23, 59, 0, 0]);
+    gen.request(desk, 0x64, &[]);
+    gen.request(desk, 0x31, &[]);
+    gen.request(desk, 0x86, &[]);
+    let kind = gen.any_kind();
+    gen.read(kind, desk, 1);
+}
+
+fn antennas(gen: &mut Gen, desk: usize) {
+    let uid = gen.new_uid();
+    gen.sight_by(desk, uid, 0);
+    gen.sight(desk, uid);
+    gen.sight(desk, uid);
+    gen.ticks(1);
+}
+
+fn refusals(gen: &mut Gen, desk: usize) {
+    let mut frame = seal(gen.any_kind(), desk as u8, 0x33, &[]);
+    let end = frame.len() - 1;
+    gen.octets(&frame[..end]);
+    frame[end] ^= 1 << gen.random.below(8);
+    gen.octets(&frame);
+    gen.request(8, 0x33, &[]);
+    gen.request(desk, 0x34, &[]);
+    gen.request(desk, 0x86, &[0]);
+    gen.request(desk, 0x52, &[1]);
+}
+
+/// The one long story: 64 records and one lost; 19 are read with the mark and removed, 19 and then one without it.
+fn overflow(gen: &mut Gen, desk: usize) {
+    fill(gen, desk);
+    gen.sight_new(desk, 1);
+    gen.read(Kind::Standard, desk, 64);
+    gen.request(desk, 0x32, &[]);
+    gen.read(Kind::Standard, desk, 64);
+    gen.read(Kind::Standard, desk, 1);
+    gen.request(desk, 0x33, &[]);
+}
+
+fn tell(gen: &mut Gen, story: Story) {
+    let desk = gen.any_desk();
+    story(gen, desk);
+}
+
+/// Every other status than 0x00, every refusal of the box and every outcome of a sighting.
+const MET: [&str; 18] = [
+    "0x52 answers 0x11",
+    "0x80 answers 0x13",
+    "0xA0 answers 0x14",
+    "0x80 answers 0x15",
+    "unknown answers 0x80",
+    "0x86 answers 0x81",
+    "0x22 answers 0x92",
+    "0x22 answers 0x93",
+    "0x22 answers 0x94",
+    "refused 2",
+    "refused 3",
+    "refused 4",
+    "refused 5",
+    "refused 6",
+    "ignored",
+    "lost",
+    "recorded",
+    "ok",
+];
+
+/// These, and every command done.
+fn must_meet() -> Tally {
+    let done = CONTROLS.map(|control| answers(control, 0x00));
+    Tally::new(MET.map(String::from).into_iter().chain(done).map(|name| (name, 1)))
+}
+
+fn met(event: &Event, answer: &Answer) -> String {
+    match (event, answer) {
+        (Event::Frame(octets), Answer::Reply(reply)) => {
+            let head = Kind::of(octets[0]).head();
+            answers(octets[head + 1], reply[head + 2])
+        }
+        _ => text(answer),
+    }
+}
+
+struct Module {
+    events: String,
+    answers: String,
+    count: usize,
+    octets: usize,
+    met: Tally,
+}
+
+impl Module {
+    fn add(&mut self, depot: &mut Depot, event: &Event, room: usize) {
+        let answer = match event {
+            Event::Frame(_) if room < REPLY_BUFFER => Answer::Refused(Refusal::ReplyBuffer),
+            _ => serve(depot, event),
+        };
+        self.octets += octets_of(event, &answer);
+        self.events += &format!("    {} ∷\n", event_text(event, room));
+        self.answers += &format!("    {} ∷\n", answer_text(&answer));
+        self.count += 1;
+        self.met.count(&met(event, &answer));
+    }
+}
+
+/// The stories stand at its start, and the short ones now and then further on. Now and then a frame comes with too little room first.
+fn module(seed: u64, most: usize) -> Module {
+    let (mut gen, mut depot) = (Gen::new(seed), Depot::fresh());
+    let mut module = Module { events: String::new(), answers: String::new(), count: 0, octets: 0, met: must_meet() };
+    STORIES.iter().chain(&[overflow as Story]).for_each(|&story| tell(&mut gen, story));
+    while module.octets < most {
+        if gen.random.one_in(25) {
+            let story = gen.random.pick(&STORIES);
+            tell(&mut gen, story);
+        }
+        let event = event(&gen.next_line());
+        if matches!(event, Event::Frame(_)) && (module.count == 0 || gen.random.one_in(12)) {
+            module.add(&mut depot, &event, gen.random.pick(&[0, REPLY_BUFFER - 1]));
+        }
+        if event != Event::NotRead {
+            module.add(&mut depot, &event, gen.random.pick(&[REPLY_BUFFER, REPLY_BUFFER, REPLY_BUFFER, 1000]));
+        }
+    }
+    module
+}
+
 fn main() {
     let [seed, most] = numbers("agree SEED OCTETS");
-    let (mut gen, mut depot) = (Gen::new(seed), Depot::fresh());
-    let (mut events, mut answers, mut left) = (String::new(), String::new(), most as usize);
-    let mut count = 0;
-    while left > 0 {
-        let event = event(&gen.next_line());
-        if event == Event::NotRead {
-            continue;
-        }
-        let answer = serve(&mut depot, &event);
-        left = left.saturating_sub(octets_of(&event, &answer));
-        events += &format!("    {} ∷\n", event_text(&event));
-        answers += &format!("    {} ∷\n", answer_text(&answer));
-        count += 1;
-    }
+    let Module { events, answers, count, met, .. } = module(seed, most as usize);
+    let missing = met.missing();
+    assert!(missing.is_empty(), "not met: {missing:?}");
     print!("{}", MODULE.replace("COUNT", &count.to_string()).replace("EVENTS", &events).replace("ANSWERS", &answers));
 }
 

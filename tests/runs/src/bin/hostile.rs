@@ -1,104 +1,142 @@
 //! `hostile SEED COUNT`: COUNT random calls of the library on sound and damaged stores, with any frames, numbers and buffers.
-//! The second program decides what each must answer and leave; it ends with status 101 at the first difference.
+//! The second program decides what each must answer and leave; it ends with status 101 at the first difference, and with 1 where
+//! an outcome was met too seldom (`floors`).
 
-use depot::numbers::TOLD;
-use runs::*;
+use runs::asked::{self, Asked};
+use runs::calls::*;
+use runs::floors::{answers, floors};
+use runs::guarded::Guarded;
+use runs::numbers;
+use second::blocks::BLOCK_BYTES;
+use second::config_stories::any_block7;
+use second::frame::Kind;
 use second::gen::Gen;
-use second::listing::{event, Event};
+use second::model::{DESKS, RECORD};
+use second::place::{self, REPLY_BUFFER};
+use second::random::Random;
 use second::sides::{any_desk, any_octet, any_reply, any_request, interesting, zeros};
 use second::store::{load, SIZE};
-use second::blocks::{Block, BLOCK_BYTES};
-use second::model::Record;
-use second::place::REPLY_BUFFER;
-use second::{config_stories::any_block7, frame::Kind, host, lines, place};
+use second::tally::Tally;
 
-struct Hostile {
+/// A store and the generator of all that happens to it, which so knows the passwords and what each desk holds.
+struct History {
     gen: Gen,
     store: Vec<u8>,
-    refused: [u64; 64],
-    answered: u64,
+}
+
+impl History {
+    fn new(seed: u64) -> History {
+        let mut store = vec![0; SIZE];
+        place::fresh(&mut store).expect("the size is right");
+        History { gen: Gen::new(seed), store }
+    }
+
+    /// Where a story ends the generator's box is what the store says: only so do its logins succeed.
+    fn in_step(&self) {
+        if self.gen.told() {
+            let depot = load(&self.store).expect("a store left by events is sound");
+            let known = (0..DESKS).all(|desk| depot.desks[desk] == *self.gen.desk(desk));
+            assert!(known, "the generator does not know its store");
+        }
+    }
+}
+
+struct Hostile {
+    /// For what no history asks: which call, which numbers, which buffers.
+    gen: Gen,
+    long: History,
+    tried: History,
+    tally: Tally,
 }
 
 impl Hostile {
-    fn new(seed: u64) -> Hostile {
-        let mut store = vec![0; SIZE];
-        place::fresh(&mut store).expect("the size is right");
-        Hostile { gen: Gen::new(seed), store, refused: [0; 64], answered: 0 }
+    fn new(seed: u64, count: u64) -> Hostile {
+        let gen = Gen::new(seed);
+        let (long, tried) = (History::new(gen.random.next()), History::new(gen.random.next()));
+        Hostile { gen, long, tried, tally: Tally::new(floors(count)) }
     }
 
     fn turn(&mut self) {
-        let code = match self.gen.random.below(16) {
-            0..5 => self.sound_store(),
-            5..10 => self.any_store(),
+        match self.gen.random.below(16) {
+            0..5 => self.history(),
+            5..9 => self.any_store(),
+            9 => self.wide_sighting(),
             10 => self.fresh(),
             11 | 12 => self.maker(),
             13 | 14 => self.reader(),
             _ => self.line_writer(),
+        }
+    }
+
+    /// The next event of a long history, in the library's own store.
+    fn history(&mut self) {
+        let call = next_call(&mut self.long.gen);
+        let room = self.gen.random.pick(&[REPLY_BUFFER, REPLY_BUFFER, REPLY_BUFFER + 1, 1000]);
+        let (code, store, out) = self.compared(&self.long.store, &call, room);
+        self.long.store = store;
+        self.long.in_step();
+        let what = match &call {
+            Call::Frame(octets) if !is_refusal(code) => answered(octets, &out),
+            _ => outcome(code),
         };
-        match is_refusal(code) {
-            true => self.refused[code as usize] += 1,
-            false => self.answered += 1,
-        }
+        self.tally.count(&format!("history: {what}"));
     }
 
-    /// The next line that is an event, so that every turn is a call.
-    fn next_event(&mut self) -> Event {
-        loop {
-            match event(&self.gen.next_line()) {
-                Event::NotRead => {}
-                event => return event,
-            }
-        }
-    }
-
-    /// The next event of a long history.
-    fn sound_store(&mut self) -> u64 {
-        let event = self.next_event();
-        let (code, store) = self.compared(&self.store, &event, REPLY_BUFFER);
-        self.store = store;
-        code
-    }
-
-    /// Any event on a store that is damaged, of another size, or of noise.
-    fn any_store(&mut self) -> u64 {
-        let event = self.next_event();
+    /// Any event on a store that is damaged, of another size, or of noise; then the store itself goes on, undamaged.
+    fn any_store(&mut self) {
+        let call = next_call(&mut self.tried.gen);
         let random = &self.gen.random;
-        let mut store = match random.below(8) {
-            0 => zeros(random),
-            1 => random.octets(SIZE),
-            _ => self.store.clone(),
-        };
-        for _ in 0..random.below(4) {
-            let at = interesting(random, &store).min(SIZE - 1);
-            store[at] = any_octet(random, store[at]);
-        }
-        let length = match random.below(12) {
-            0 => random.pick(&[0, 1, 6, SIZE - 1]),
-            _ => SIZE,
-        };
-        store.truncate(length);
+        let store = damaged(random, &self.tried.store);
         let room = random.pick(&[0, REPLY_BUFFER - 1, REPLY_BUFFER, REPLY_BUFFER, REPLY_BUFFER, REPLY_BUFFER + 1, 1000]);
-        self.compared(&store, &event, room).0
+        let (code, _, out) = self.compared(&store, &call, room);
+        self.tally.count(&match &call {
+            Call::Frame(octets) if !is_refusal(code) => format!("frame: status {:#04X}", status(octets, &out)),
+            Call::Frame(_) => format!("frame: {}", outcome(code)),
+            Call::Sighting { .. } => format!("sighting: {}", outcome(code)),
+            Call::Tick => format!("tick: {}", outcome(code)),
+        });
+        second_box(&mut self.tried.store, &call, &mut [0; REPLY_BUFFER]);
+        self.tried.in_step();
     }
 
-    fn compared(&self, store: &[u8], event: &Event, room: usize) -> (u64, Vec<u8>) {
+    /// A sighting in numbers that no line can say.
+    fn wide_sighting(&mut self) {
+        let random = &self.gen.random;
+        let desk = random.pick(&[0, 1, 5, 7, 8, 255, 256, 263, 1 << 32, (1 << 32) + 1, u64::MAX]);
+        let mask = random.pick(&[0, 1, 255, 256, 257, 0x1FF, 1 << 32, (1 << 32) + 1, u64::MAX]);
+        let call = Call::Sighting { desk, uid: self.tried.gen.old_uid(), mask };
+        let store = match random.below(4) {
+            0 => damaged(random, &self.tried.store),
+            _ => self.tried.store.clone(),
+        };
+        let (code, _, _) = self.compared(&store, &call, 0);
+        let why = match code {
+            5 if mask == 0 || mask > 255 => ", a mask of 0 or above 255 as well",
+            5 if desk > 255 => ", above 255",
+            6 if mask > 255 => ", above 255",
+            _ => "",
+        };
+        self.tally.count(&format!("sighting: {}{why}", outcome(code)));
+    }
+
+    fn compared(&self, store: &[u8], call: &Call, room: usize) -> (u64, Vec<u8>, Vec<u8>) {
         let out = self.gen.random.octets(room);
         let (mut wanted_store, mut wanted_out) = (store.to_vec(), out.clone());
-        let wanted = second_box(&mut wanted_store, event, &mut wanted_out);
+        let wanted = second_box(&mut wanted_store, call, &mut wanted_out);
         let (mut mine, mut mine_out) = (Guarded::new(store), Guarded::new(&out));
-        let code = library(mine.inner(), event, mine_out.inner());
+        let code = library(mine.inner(), call, mine_out.inner());
         let (mine, mine_out) = (mine.taken("store"), mine_out.taken("output"));
-        assert_eq!(code, wanted, "{event:?}");
-        assert!(mine_out == wanted_out, "{event:?}: the output differs");
+        assert_eq!(code, wanted, "{call:?}");
+        assert!(mine_out == wanted_out, "{call:?}: the output differs");
         if is_refusal(code) {
-            assert!(mine == store, "{event:?}: a refused call wrote to the store");
+            assert!(mine == store, "{call:?}: a refused call wrote to the store");
         } else {
-            assert!(load(&mine) == load(&wanted_store), "{event:?}: the stores say different boxes");
+            assert!(load(&mine) == load(&wanted_store), "{call:?}: the stores say different boxes");
         }
-        (code, mine)
+        (code, mine, mine_out)
     }
 
-    fn fresh(&mut self) -> u64 {
+    fn fresh(&mut self) {
         let random = &self.gen.random;
         let noise = random.octets(random.pick(&[0, 1, SIZE - 1, SIZE, SIZE, SIZE + 1]));
         let mut wanted = noise.clone();
@@ -106,80 +144,104 @@ impl Hostile {
         let mut mine = Guarded::new(&noise);
         assert_eq!(depot::raw::fresh(mine.inner()), code, "fresh of {}", noise.len());
         assert!(mine.taken("store") == wanted, "the fresh stores differ");
-        code
+        self.tally.count(&format!("fresh: {}", outcome(code)));
     }
 
-    fn maker(&mut self) -> u64 {
+    fn maker(&mut self) {
         let request = any_request(&mut self.gen);
         let random = &self.gen.random;
-        let (kind, desk) = (random.pick(&Kind::BOTH), any_desk(random));
+        let q = Asked::of(random, random.pick(&Kind::BOTH), any_desk(random), &request).beyond(random);
         let out = random.octets(random.below(40));
         let mut wanted = out.clone();
-        let code = octets_code(host::make(kind, desk, &request, &mut wanted));
+        let code = q.made(&mut wanted);
         let mut mine = Guarded::new(&out);
-        assert_eq!(depot::raw::make(asked(kind, desk, &request, &bytes(&request)), mine.inner()), code, "make {kind:?} {desk} {request:?}");
-        assert!(mine.taken("output") == wanted, "make {kind:?} {desk} {request:?}: the output differs");
-        code
+        assert_eq!(depot::raw::make(q.raw(), mine.inner()), code, "make {q:?}");
+        assert!(mine.taken("output") == wanted, "make {q:?}: the output differs");
+        self.tally.count(&format!("make: {}{}", outcome(code), no_request(&q)));
     }
 
-    fn reader(&mut self) -> u64 {
+    fn reader(&mut self) {
         let request = any_request(&mut self.gen);
         let random = &self.gen.random;
         let (kind, desk) = (random.pick(&Kind::BOTH), any_desk(random));
         let reply = any_reply(random, kind, desk as u8, &request);
-        let start = kind.head() as u64 + 3;
-        let wanted = host::read(kind, desk, &request, &reply)
-            .map_or_else(refused, |read| TOLD + (u64::from(read.status) << 24) + (start << 16) + read.data.len() as u64);
-        let code = depot::raw::read(asked(kind, desk, &request, &bytes(&request)), &reply);
-        assert_eq!(code, wanted, "read {kind:?} {desk} {request:?} {reply:02X?}");
-        code
+        let q = Asked::of(random, kind, desk, &request).beyond(random);
+        let code = q.read(&reply);
+        assert_eq!(depot::raw::read(q.raw(), &reply), code, "read {q:?} {reply:02X?}");
+        self.tally.count(&format!("read: {}{}", outcome(code), no_request(&q)));
     }
 
-    fn line_writer(&mut self) -> u64 {
-        let block = any_block7(&mut self.gen);
+    fn line_writer(&mut self) {
+        let block = any_block7(&mut self.gen).to_vec();
         let random = &self.gen.random;
-        let out = random.octets(random.below(120));
-        let mut wanted = out.clone();
-        let mut mine = Guarded::new(&out);
-        let (code, answer) = if random.one_in(2) {
-            let record: Record = std::array::from_fn(|_| random.octet());
-            (octets_code(lines::line(&block, &record, &mut wanted)), depot::raw::line(&block, &record, mine.inner()))
-        } else {
-            let data = random.octets(random.pick(&[0, 1, 2, 14, 15, 28, 29, 41]));
-            (octets_code(lines::lines(&block, &data, &mut wanted)), depot::raw::lines(&block, &data, mine.inner()))
+        let block = resized(random, block);
+        let record = resized(random, random.octets(RECORD));
+        let sent = random.octets(random.pick(&[0, 1, 2, 14, 15, 28, 29, 41, 249, 834, 835, 1000]));
+        let one = random.one_in(2);
+        let room = random.pick(&[40, 120, 120, 2100]);
+        let out = random.octets(random.below(room));
+        let (mut wanted, mut mine) = (out.clone(), Guarded::new(&out));
+        let (code, answer) = match one {
+            true => (asked::line(&block, &record, &mut wanted), depot::raw::line(&block, &record, mine.inner())),
+            false => (asked::lines(&block, &sent, &mut wanted), depot::raw::lines(&block, &sent, mine.inner())),
         };
-        assert_eq!(answer, code, "line {block:02X?}");
-        assert!(mine.taken("output") == wanted, "line {block:02X?}: the output differs");
-        code
+        assert_eq!(answer, code, "lines {block:02X?} {record:02X?} {sent:02X?}");
+        assert!(mine.taken("output") == wanted, "lines {block:02X?} {record:02X?} {sent:02X?}: the output differs");
+        let why = match (block.len(), record.len()) {
+            (BLOCK_BYTES, RECORD) => "",
+            (BLOCK_BYTES, _) if one => ", a record of another length",
+            (BLOCK_BYTES, _) => "",
+            _ => ", a block of another length",
+        };
+        self.tally.count(&format!("{}: {}{why}", if one { "line" } else { "lines" }, outcome(code)));
     }
 }
 
-fn bytes(request: &host::Request) -> Block {
-    match request {
-        host::Request::WriteBlock { bytes, .. } => *bytes,
-        _ => [0; BLOCK_BYTES],
+/// Now and then of another length; the octets that stay are the same.
+fn resized(random: &Random, mut octets: Vec<u8>) -> Vec<u8> {
+    if random.one_in(8) {
+        let length = octets.len();
+        octets.resize(random.pick(&[0, 1, length - 1, length + 1, 2 * length]), 0);
     }
+    octets
 }
 
-fn asked<'a>(kind: Kind, desk: u64, request: &host::Request, bytes: &'a Block) -> depot::raw::Asked<'a> {
-    use host::Request::*;
-    let (a, b, c) = match *request {
-        Baud { value } => (value, 0, 0),
-        ReadBlock { adr } | WriteBlock { adr, .. } | SaveBlocks { adr } | SetDefaults { adr } => (adr, 0, 0),
-        SetTimer { hour, minute, ms } => (hour, minute, ms),
-        Login { password } => (password, 0, 0),
-        ReadRecords { k } => (k, 0, 0),
-        _ => (0, 0, 0),
+fn damaged(random: &Random, sound: &[u8]) -> Vec<u8> {
+    let mut store = match random.below(8) {
+        0 => zeros(random),
+        1 => random.octets(SIZE),
+        _ => sound.to_vec(),
     };
-    depot::raw::Asked { kind: kind_number(kind), desk, control: request.control().into(), a, b, c, bytes }
+    for _ in 0..random.pick(&[0, 0, 1, 2]) {
+        let at = interesting(random, &store).min(SIZE - 1);
+        store[at] = any_octet(random, store[at]);
+    }
+    let length = match random.below(12) {
+        0 => random.pick(&[0, 1, 6, SIZE - 1, SIZE + 1]),
+        _ => SIZE,
+    };
+    store.resize(length, 0);
+    store
+}
+
+/// The status octet of the reply to a request.
+fn status(request: &[u8], reply: &[u8]) -> u8 {
+    reply[Kind::of(request[0]).head() + 2]
+}
+
+fn answered(request: &[u8], reply: &[u8]) -> String {
+    answers(request[Kind::of(request[0]).head() + 1], status(request, reply))
+}
+
+/// Why numbers name no request.
+fn no_request(q: &Asked) -> String {
+    q.request().err().map_or(String::new(), |why| format!(", {why}"))
 }
 
 fn main() {
     let [seed, count] = numbers("hostile SEED COUNT");
-    let mut hostile = Hostile::new(seed);
+    let mut hostile = Hostile::new(seed, count);
     (0..count).for_each(|_| hostile.turn());
-    println!("{count} calls as the second program has them: {} answered", hostile.answered);
-    for (number, times) in hostile.refused.iter().enumerate().filter(|(_, times)| **times > 0) {
-        println!("refused {number}: {times}");
-    }
+    println!("{count} calls as the second program has them");
+    std::process::exit(i32::from(!hostile.tally.print()));
 }

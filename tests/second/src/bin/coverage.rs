@@ -16,10 +16,5 @@ fn main() {
     for _ in 0..count {
         coverage.line(&gen.next_line());
     }
-    for (name, count) in coverage.counts() {
-        println!("{count:9}  {name}");
-    }
-    let missing = coverage.counts().values().filter(|&&count| count == 0).count();
-    println!("{} situations, {missing} not reached", coverage.counts().len());
-    exit(i32::from(missing > 0));
+    exit(i32::from(!coverage.tally().print()));
 }

@@ -1,0 +1,61 @@
+//! What hostile calls must meet, and how often.
+
+use second::command::known;
+use second::shapes::CONTROLS;
+use second::situations::statuses;
+
+/// `(calls, call, outcomes)`: each outcome of that call is met at least once in so many calls. A run of fewer calls than that is
+/// not asked for it, so that a short run, as under valgrind, is asked for the frequent ones alone. The numbers leave room for
+/// chance: in sixty runs of 100000 calls the least count was more than twice the floor.
+const FLOORS: [(u64, &str, &[&str]); 26] = [
+    (500, "history", &["0x80 answers 0x00", "0x81 answers 0x00", "0x22 answers 0x00", "done", "recorded"]),
+    (1000, "history", &["0xA0 answers 0x00", "ignored"]),
+    (5000, "history", &["0x80 answers 0x13", "0xA0 answers 0x14", "0x64 answers 0x00", "0x22 answers 0x93", "0x22 answers 0x94"]),
+    (5000, "history", &["unknown answers 0x80", "refused 3", "refused 4", "refused 5", "lost"]),
+    (RARE, "history", &["refused 6"]),
+    (500, "frame", &["refused 1", "refused 2", "status 0x00"]),
+    (5000, "frame", &["refused 3", "status 0x11", "status 0x13", "status 0x81"]),
+    (RARE, "frame", &["refused 4", "refused 5", "status 0x14", "status 0x15", "status 0x80"]),
+    (RARE, "frame", &["status 0x92", "status 0x93", "status 0x94"]),
+    (500, "sighting", &["refused 1", "refused 5, a mask of 0 or above 255 as well", "refused 6, above 255", "recorded"]),
+    (5000, "sighting", &["refused 5", "refused 5, above 255", "refused 6", "ignored", "lost"]),
+    (500, "tick", &["refused 1", "done"]),
+    (500, "fresh", &["refused 1", "done"]),
+    (500, "make", &["refused 5", "refused 6", "refused 7", "written"]),
+    (500, "make", &["refused 6, no kind", "refused 6, no command", "refused 6, a control above 255"]),
+    (5000, "make", &["refused 5, no kind", "refused 5, no command", "refused 5, a control above 255"]),
+    (5000, "make", &["refused 6, bytes of another length"]),
+    (500, "read", &["refused 4", "refused 8", "refused 8, no kind", "refused 8, no command", "refused 8, a control above 255"]),
+    (5000, "read", &["refused 3", "refused 4, a control above 255", "refused 8, bytes of another length"]),
+    (500, "read", &["status 0x00"]),
+    (5000, "read", &["status 0x11", "status 0x13", "status 0x14", "status 0x92", "status 0x93", "status 0x94"]),
+    (RARE, "read", &["status 0x15", "refused 3, no kind", "refused 3, no command", "refused 4, no kind", "refused 4, no command"]),
+    (500, "line", &["refused 6", "written"]),
+    (500, "lines", &["refused 6", "refused 7", "written"]),
+    (2000, "line", &["refused 6, a block of another length", "refused 6, a record of another length", "refused 7"]),
+    (2000, "lines", &["refused 6, a block of another length"]),
+];
+
+const RARE: u64 = 40000;
+
+/// Each name with its floor in a run of `count` calls. In the long history every command gives each of its statuses.
+pub fn floors(count: u64) -> Vec<(String, u64)> {
+    let named = |call: &str, outcome: &str, calls: u64| (format!("{call}: {outcome}"), count / calls);
+    let mut floors = Vec::new();
+    for control in CONTROLS {
+        let every = statuses(control).iter().chain(&[0x81]);
+        floors.extend(every.map(|&status| named("history", &answers(control, status), RARE)));
+    }
+    for (calls, call, outcomes) in FLOORS {
+        floors.extend(outcomes.iter().map(|outcome| named(call, outcome, calls)));
+    }
+    floors
+}
+
+/// The name of a command's status.
+pub fn answers(control: u8, status: u8) -> String {
+    match known(control) {
+        Some(_) => format!("{control:#04X} answers {status:#04X}"),
+        None => format!("unknown answers {status:#04X}"),
+    }
+}
