@@ -18,7 +18,7 @@ use Rattle.rules.specs.Config.{blockSize}
 use Rattle.rules.specs.Control.{known}
 use Rattle.requests.specs.declared.Ask.{Ask}
 use Rattle.requests.specs.declared.Request.{Request}
-use Rattle.typed.specs.Typed.{blockTold}
+use Rattle.typed.specs.Typed.{bytesOf}
 
 -- an antenna mask and a control byte are one octet each; a larger number is as 0, which is no mask and no command
 unfoldable pub octetOf : ℕ → ℕ
@@ -70,5 +70,5 @@ requestOf kind desk control a b c bytes =
       kind = kindNamed kind;
       desk = desk;
       ask = cond (whole kind (octetOf control) bytes) (askOf (known (octetOf control)) a b c) noAsk;
-      bytes = blockTold bytes .bytes;
+      bytes = bytesOf bytes;
     }

@@ -24,14 +24,14 @@ use Rattle.rules.specs.declared.Written.{Written}
 use Rattle.rules.specs.Box.{frame, sighting, tick}
 use Rattle.rules.specs.Output.{Wrote}
 use Rattle.depot.specs.declared.Answer.{Answer}
-use Rattle.depot.specs.Called.{Called, freshRefusals, MadeOf, Made}
+use Rattle.depot.specs.Called.{Called, testRefusals, TestedOf, Tested, freshRefusals, MadeOf, Made}
 use Rattle.depot.proofs.Short.{Short, frame-short, sighting-short, tick-short}
 use Rattle.requests.specs.declared.Request.{Request}
 use Rattle.reader.specs.declared.Told.{Told}
 use Rattle.requests.specs.Request.{requestFrame}
 use Rattle.maker.specs.Maker.{makerRefusals, Requested}
 use Rattle.reader.specs.Reader.{finding, toldOf, readerRefusals, readAs}
-use Rattle.lines.specs.Lines.{lineRefusals, Lined}
+use Rattle.lines.specs.Lines.{lineRefusals, Lined, linesOf, linesRefusals, AllLined}
 use Rattle.codes.specs.Codes.{seenCode, codeOf, writtenCode, readCode}
 
 seen-small : (w : Seen) → seenCode w ≤ 2 ^ 16
@@ -63,9 +63,16 @@ fresh-fits s a s′ c = go (first (freshRefusals s)) (c .made)
     go none m = rw (m .0) (omega arith)
     go (some n) m = rw (m .0 .answer-is) (omega (arith, number-small (m .0 .why)))
 
+pub test-fits : (s : List ℕ) (a : Answer) → Tested s a → codeOf a < 2 ^ 64
+test-fits s a c = go (first (testRefusals s)) (c .tested)
+  where
+    go : (o : Option ℕ) → TestedOf o a → codeOf a < 2 ^ 64
+    go none m = rw m (omega arith)
+    go (some n) m = rw (m .answer-is) (omega (arith, number-small (m .why)))
+
 -- ---- octets in a lent output, which has fewer than 2^63
 
-wrote-fits : (o : Option ℕ) (t out : List ℕ) (a : Written) (out′ : List ℕ) → (o ≡ none → length t < 2 ^ 63) → Wrote o t out a out′ → writtenCode a < 2 ^ 64
+pub wrote-fits : (o : Option ℕ) (t out : List ℕ) (a : Written) (out′ : List ℕ) → (o ≡ none → length t < 2 ^ 63) → Wrote o t out a out′ → writtenCode a < 2 ^ 64
 wrote-fits none t out a out′ h w = let l = h refl in rw (w .outcome .0) (omega arith)
 wrote-fits (some n) t out a out′ h w = rw (w .outcome .0 .answer-is) (omega (arith, number-small (w .outcome .0 .why)))
 
@@ -83,6 +90,12 @@ pub lined-fits : (block text out : List ℕ) (a : Written) (out′ : List ℕ) �
 unfolding lineRefusals
 lined-fits block text out a out′ h w =
     wrote-fits (first (lineRefusals block text (length out))) text out a out′ (λ e. room-there text out h (none-head 7 _ [] (none-tail 6 _ _ e))) w
+
+pub all-lined-fits : (block sent out : List ℕ) (a : Written) (out′ : List ℕ) → length out < 2 ^ 63 → AllLined block sent out a out′ → writtenCode a < 2 ^ 64
+unfolding linesRefusals
+all-lined-fits block sent out a out′ h w =
+    wrote-fits (first (linesRefusals block sent (length out))) (linesOf block sent) out a out′
+    (λ e. room-there (linesOf block sent) out h (none-head 7 _ [] (none-tail 6 _ _ (none-tail 6 _ _ e)))) w
 
 -- ---- the reader
 

@@ -9,7 +9,7 @@ use Rattle.frame.proofs.Numbers.{refuses-once}
 use Rattle.octets.specs.Tests.{first}
 use Rattle.depot.specs.declared.Answer.{Answer}
 use Rattle.depot.specs.declared.Answer.the-variants.{Refused}
-use Rattle.depot.specs.Called.{stepOn, Ended, Called, freshRefusals, MadeOf, Made}
+use Rattle.depot.specs.Called.{stepOn, Ended, Called, testRefusals, TestedOf, Tested, freshRefusals, MadeOf, Made}
 
 pub record Same (a b : Answer) (out out′ s s′ : List ℕ) : Type 0 where
   pub answers : a ≡ b
@@ -37,3 +37,11 @@ made-once s a b s′ s″ p q = go (first (freshRefusals s)) (p .made) (q .made)
     go : (o : Option ℕ) → MadeOf o s a s′ → MadeOf o s b s″ → (a ≡ b) × (s′ ≡ s″)
     go none x y = (x .0 ∙ sym (y .0), x .1 ∙ sym (y .1))
     go (some n) x y = (refuses-once Refused n a b (x .0) (y .0), x .1 ∙ sym (y .1))
+
+-- a store is sound, or it is not
+pub tested-once : (s : List ℕ) (a b : Answer) → Tested s a → Tested s b → a ≡ b
+tested-once s a b p q = go (first (testRefusals s)) (p .tested) (q .tested)
+  where
+    go : (o : Option ℕ) → TestedOf o a → TestedOf o b → a ≡ b
+    go none x y = x ∙ sym y
+    go (some n) x y = refuses-once Refused n a b x y

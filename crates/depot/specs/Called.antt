@@ -40,6 +40,17 @@ Ended ok box s out a s′ out′ = (a ≡ Done) × (out′ ≡ out) × Next box 
 pub record Called (e : Event) (s out : List ℕ) (a : Answer) (s′ out′ : List ℕ) : Type 0 where
   pub ended : Ended (stepOn s e .answer) (stepOn s e .box) s out a s′ out′
 
+-- the test of a store, which only reads, can meet 1
+unfoldable pub testRefusals : List ℕ → List (ℕ × Bool)
+testRefusals s = (1, not (sound s)) ∷ []
+
+abbrev pub TestedOf : Option ℕ → Answer → Type 0
+TestedOf none a = a ≡ Done
+TestedOf (some n) a = Refuses Refused n a
+
+pub record Tested (s : List ℕ) (a : Answer) : Type 0 where
+  pub tested : TestedOf (first (testRefusals s)) a
+
 -- making a fresh store can meet 1, for size only
 unfoldable pub freshRefusals : List ℕ → List (ℕ × Bool)
 freshRefusals s = (1, not (eqb (length s) storeSize)) ∷ []

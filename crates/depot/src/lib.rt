@@ -18,7 +18,7 @@ ghost use Rattle.frame.specs.Shape.{replyRoom};
 ghost use Rattle.frame.specs.Judged.{Verdict, judged};
 ghost use Rattle.rules.specs.Box.{Event};
 ghost use Rattle.store.specs.Sound.{sound};
-ghost use Rattle.depot.specs.Called.{Made, Called};
+ghost use Rattle.depot.specs.Called.{Made, Tested, Called};
 
 // What a call answers.
 pub enum Answer {
@@ -38,6 +38,16 @@ pub fn fresh(store: &mut [u8]) -> Answer
     }
     fresh::make(store);
     Answer::Done
+}
+
+// Whether a store is sound: one that was kept in a file, say. It only reads.
+pub fn test(store: &[u8]) -> Answer
+    ensures { λ r. ⌜ Tested (now (store .entry)) r ⌝ }
+{
+    if soundness::test(store) {
+        return Answer::Done;
+    }
+    Answer::Refused(Refusal::Unsound)
 }
 
 // A frame that was judged sound is answered by the desk that it names.

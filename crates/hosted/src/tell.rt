@@ -6,10 +6,12 @@ use reader::Told;
 use requests::Ask;
 use requests::Request;
 use timer::Timer;
+use typed::CountTold;
 use typed::RecordTold;
 use typed::Sighting;
 use typed::SizesTold;
 use typed::TimerTold;
+use typed::Whether;
 
 pub fn refused(r: Refusal) {
     show::word(b"refused ");
@@ -50,16 +52,20 @@ fn timed(sent: &[u8]) {
             show::word(b" ");
             clock(t);
         }
-        TimerTold::Nothing => (),
+        TimerTold::Refused(_) => (),
     }
 }
 
 fn blocked(sent: &[u8]) {
     let b = typed::block_in(sent);
-    if b.there {
-        let bytes = b.bytes;
-        show::word(b" ");
-        show::hex(&bytes);
+    let whether = b.whether;
+    match whether {
+        Whether::There => {
+            let bytes = b.bytes;
+            show::word(b" ");
+            show::hex(&bytes);
+        }
+        Whether::Refused(_) => (),
     }
 }
 
@@ -73,7 +79,7 @@ fn sized(sent: &[u8]) {
             show::word(b" ");
             show::number(s.len as u64);
         }
-        SizesTold::Nothing => (),
+        SizesTold::Refused(_) => (),
     }
 }
 
@@ -92,12 +98,15 @@ fn sighted(s: Sighting) {
 fn record_at(sent: &[u8], i: usize) {
     match typed::record_in(sent, i) {
         RecordTold::Record(s) => sighted(s),
-        RecordTold::Nothing => (),
+        RecordTold::Refused(_) => (),
     }
 }
 
 fn recorded(sent: &[u8]) {
-    let n = rules::records_for(sent.len());
+    let n = match typed::count_in(sent) {
+        CountTold::Records(n) => n,
+        CountTold::Refused(_) => 0,
+    };
     let mut i: usize = 0;
     while i < n {
         record_at(sent, i);

@@ -5,6 +5,7 @@ use pieces::width;
 use rules::BLOCK;
 use rules::Written;
 use table::RECORD;
+use typed::CountTold;
 ghost use mathlib.Core.Path.{_≡_};
 ghost use mathlib.Core.Bool.{true};
 ghost use Prim.Native.Nat.{_*_, _≤_};
@@ -13,7 +14,8 @@ ghost use Rattle.octets.specs.Parts.{put};
 ghost use Rattle.rules.specs.Config.{lineLegal, blockSize};
 ghost use Rattle.rules.specs.Line.{line};
 ghost use Rattle.pieces.specs.Pieces.{widthOf};
-ghost use Rattle.lines.specs.Lines.{Lined, recordsIn, linesOf};
+ghost use Rattle.typed.specs.Typed.{readData};
+ghost use Rattle.lines.specs.Lines.{Lined, recordsIn, linesOf, AllLined};
 
 // Whether block 7 follows the rules.
 fn legal(block: &[u8]) -> bool
@@ -36,13 +38,6 @@ pub fn line(block: [u8; BLOCK], sighted: [u8; RECORD], out: &mut [u8]) -> Writte
     Written::Octets(put_line(&block, &sighted, out))
 }
 
-// How many records the data of a 0x22 reply carry, behind their count.
-fn records(sent: &[u8]) -> usize
-    ensures { λ r. ⌜ r ≡ length (recordsIn (now (sent .entry))) ⌝ }
-{
-    rules::records_for(sent.len())
-}
-
 // Writes the lines of all m records into an output that has room for them, each into what is left behind the last.
 fn put_lines(block: &[u8], sent: &[u8], m: usize, out: &mut [u8]) -> usize
     requires { ⌜ (length (now block) ≡ blockSize) × (lineLegal (now block) ≡ true) × (m ≡ length (recordsIn (now sent))) × (widthOf (now block) * m ≤ length (now out)) ⌝ }
@@ -59,17 +54,26 @@ fn put_lines(block: &[u8], sent: &[u8], m: usize, out: &mut [u8]) -> usize
     at
 }
 
-// Writes a line for each record that the data of a 0x22 reply carry, all or none.
+// Writes the lines of all m records, if there is room for all of them.
+fn put_all(block: &[u8], sent: &[u8], m: usize, out: &mut [u8]) -> Written
+    requires { ⌜ (length (now block) ≡ blockSize) × (lineLegal (now block) ≡ true) × (readData (now sent) ≡ true) × (m ≡ length (recordsIn (now sent))) ⌝ }
+    ensures { λ r. ⌜ AllLined (now (block .entry)) (now (sent .entry)) (now (out .entry)) r (now (out .exit)) ⌝ }
+{
+    if out.len() / width(block) < m {
+        return Written::Refused(Refusal::NoRoom);
+    }
+    Written::Octets(put_lines(block, sent, m, out))
+}
+
+// Writes a line for each record that the data of a reply to 0x22 carry, all or none.
 pub fn lines(block: [u8; BLOCK], sent: &[u8], out: &mut [u8]) -> Written
-    ensures { λ r. ⌜ Lined block (linesOf block (now (sent .entry))) (now (out .entry)) r (now (out .exit)) ⌝ }
+    ensures { λ r. ⌜ AllLined block (now (sent .entry)) (now (out .entry)) r (now (out .exit)) ⌝ }
 {
     if !legal(&block) {
         return Written::Refused(Refusal::OutOfRange);
     }
-    let m = records(sent);
-    // By division: the product could be too large for a number.
-    if out.len() / width(&block) < m {
-        return Written::Refused(Refusal::NoRoom);
+    match typed::count_in(sent) {
+        CountTold::Refused(_) => Written::Refused(Refusal::OutOfRange),
+        CountTold::Records(m) => put_all(&block, sent, m, out),
     }
-    Written::Octets(put_lines(&block, sent, m, out))
 }

@@ -1,15 +1,16 @@
 -- What was sent is told typed: a block, the timer, the sizes, a record, and the sighting that the record is of. Assumes nothing.
-use Prim.Native.Nat.{ℕ, _+_, _*_, _^_, _<_}
+use Prim.Native.Nat.{ℕ, _+_, _*_, _^_, _≤_, _<_}
 use mathlib.Core.Path.{_≡_, refl, sym, ap, _∙_}
-use mathlib.Core.Bool.{true}
+use mathlib.Core.Bool.{true, or-true}
 use mathlib.Core.List.{List, []}
 use native.Mathlib.Nat.{mul-comm}
 use native.Mathlib.Omega.{arith}
 use lib.ListN.{length, getD, take}
 use lib.Seq.{drop-append-add}
-use lib.Dec.{lit<}
-use borrow.Author.Tests.{eq-eqb, lt-ltb}
+use lib.Dec.{eqb, lit<}
+use borrow.Author.Tests.{eq-eqb, lt-ltb, le-leb, lt-leb}
 use Rattle.rules.specs.Config.{blockSize}
+use Rattle.octets.specs.Tests.{first}
 use Rattle.octets.specs.Parts.{part, rows, joined}
 use Rattle.octets.specs.Numbers.{number, octets, u16At}
 use Rattle.octets.proofs.Numbers.{number-octets}
@@ -26,33 +27,44 @@ use Rattle.rules.specs.Desk.{Desk}
 use Rattle.rules.specs.Records.{recordOf, counted}
 use Rattle.rules.specs.Command.{result, tableEffect}
 use Rattle.rules.proofs.Facts.{TableLegal}
-use Rattle.typed.specs.declared.TimerTold.{TimerTold}
-use Rattle.typed.specs.declared.SizesTold.{SizesTold}
-use Rattle.typed.specs.declared.RecordTold.{RecordTold}
-use Rattle.typed.specs.Typed.{blockTold, timerTold, sizesTold, sightingFrom, recordTold}
-use Rattle.rules.proofs.Counts.{records-back, counted-length}
+use Rattle.typed.specs.Typed.{says, otherLength, blockTold, timerTold, sizesFrom, sizesTold, readData, countRefusals, countTold, sightingFrom, recordRefusals, recordTold}
+use Rattle.rules.proofs.Counts.{records-back, counted-length, count-back}
+use Rattle.typed.proofs.Telling.{right-length}
 
-pub block-told : (bytes : List ℕ) → length bytes ≡ blockSize → blockTold bytes ≡ record { there = true; bytes = bytes }
+pub block-told : (bytes : List ℕ) → length bytes ≡ blockSize → blockTold bytes ≡ says bytes
 unfolding blockTold
-block-told bytes e = rw (eq-eqb (length bytes) blockSize e)
+block-told bytes e = rw (right-length blockSize bytes e)
 
 ms-fits : (t : Timer) → timerLegal t ≡ true → t .ms < 65536
 ms-fits t e = omega (arith, timer-facts t e .ms)
 
-pub timer-told : (t : Timer) → timerLegal t ≡ true → timerTold (timerOctets t) ≡ TimerTold.Timer t
-unfolding timerTold
+pub timer-told : (t : Timer) → timerLegal t ≡ true → timerTold (timerOctets t) ≡ says t
+unfolding timerTold otherLength first
 timer-told t e = rw (timer-length t, timer-back t (ms-fits t e))
 
 -- what 0x31 sends
 pub sizes-told : (kind : Kind) (d : Desk) (body : List ℕ) → TableLegal (d .table)
-    → sizesTold (tableEffect SendTable kind d body .sent) ≡ SizesTold.Sizes (record { size = share; start = d .table .start; len = length (d .table .held) })
-unfolding tableEffect result sizesTold u16At part octets
+    → sizesTold (tableEffect SendTable kind d body .sent) ≡ says (record { size = share; start = d .table .start; len = length (d .table .held) })
+unfolding tableEffect result sizesTold sizesFrom otherLength first u16At part octets
 sizes-told kind d body p =
     let start : number (octets 2 (d .table .start)) ≡ d .table .start = number-octets 2 (d .table .start) (omega (arith, p .start)) in
     let len : number (octets 2 (length (d .table .held))) ≡ length (d .table .held) = number-octets 2 (length (d .table .held)) (omega (arith, p .few)) in
     rw (number-octets 2 share (lit< tt), start, len)
 
 -- ---- 0x22
+
+-- what it sends is judged so
+module _ (rs : List (List ℕ)) (wide : Wide recordWidth rs) (some : 0 < length rs) (few : length rs ≤ share) where
+  counted-data : readData (counted rs) ≡ true
+  unfolding readData
+  counted-data =
+      let n = count-back rs (omega arith) in
+      let l : length (counted rs) ≡ 2 + length rs * recordWidth = counted-length rs wide in
+      rw (n, lt-ltb 0 (length rs) some, le-leb (length rs) share few, eq-eqb (length (counted rs)) (2 + length rs * recordWidth) l) (or-true (eqb (length (counted rs)) 0))
+
+  pub count-told : countTold (counted rs) ≡ says (length rs)
+  unfolding countTold countRefusals first
+  count-told = rw (counted-data, counted-length rs wide, records-back (length rs))
 
 module _ (rs : List (List ℕ)) (wide : Wide recordWidth rs) (i : ℕ) (h : i < length rs) where
   row-is : part (recordWidth * i) recordWidth (joined rs) ≡ getD rs i []
@@ -69,9 +81,9 @@ module _ (rs : List (List ℕ)) (wide : Wide recordWidth rs) (i : ℕ) (h : i < 
       ∙ ap (λ (n : ℕ). part n recordWidth (joined rs)) (mul-comm i recordWidth)
       ∙ row-is
 
-  pub record-told : recordTold (counted rs) i ≡ RecordTold.Record (sightingFrom (getD rs i []))
-  unfolding recordTold
-  record-told = rw (counted-length rs wide, records-back (length rs), lt-ltb i (length rs) h, record-is)
+  pub record-told : length rs ≤ share → recordTold (counted rs) i ≡ says (sightingFrom (getD rs i []))
+  unfolding recordTold recordRefusals countRefusals first
+  record-told few = rw (counted-data rs wide (omega arith) few, counted-length rs wide, records-back (length rs), lt-leb (length rs) i h, record-is)
 
 pub sighting-back : (uid : ℕ) (t : Timer) (mask : ℕ) → uid < 2 ^ 64 → timerLegal t ≡ true
     → sightingFrom (recordOf uid t mask) ≡ record { uid = uid; timer = t; mask = mask }

@@ -1,20 +1,28 @@
-// What the data of a reply say, for those who want it typed.
+// What the data of a reply say, for those who want it typed. Data that a reply to that command does not carry are refused.
+use frame::Refusal;
 use rules::BLOCK;
 use rules::records_for;
 use table::RECORD;
+use table::SHARE;
 use timer::Timer;
 ghost use mathlib.Core.Path.{_≡_};
-ghost use Rattle.typed.specs.Typed.{blockTold, timerTold, sizesTold, recordTold};
+ghost use Rattle.typed.specs.Typed.{BlockSaid, timerSaid, timerTold, sizesSaid, sizesTold, readData, countSaid, countTold, recordSaid, recordTold};
 
-// The bytes of a block, where they are there.
+// Whether there is what was looked for.
+pub enum Whether {
+    There,
+    Refused(Refusal),
+}
+
+// The bytes of a block, where they are there; else zeros.
 pub struct Block {
-    pub there: bool,
+    pub whether: Whether,
     pub bytes: [u8; BLOCK],
 }
 
 pub enum TimerTold {
     Timer(Timer),
-    Nothing,
+    Refused(Refusal),
 }
 
 // TAB-SIZE, TAB-START, TAB-LEN.
@@ -26,7 +34,12 @@ pub struct Sizes {
 
 pub enum SizesTold {
     Sizes(Sizes),
-    Nothing,
+    Refused(Refusal),
+}
+
+pub enum CountTold {
+    Records(usize),
+    Refused(Refusal),
 }
 
 // A record.
@@ -38,43 +51,43 @@ pub struct Sighting {
 
 pub enum RecordTold {
     Record(Sighting),
-    Nothing,
+    Refused(Refusal),
 }
 
 // The block that a reply to 0x80 carries.
 pub fn block_in(sent: &[u8]) -> Block
-    ensures { λ r. ⌜ r ≡ blockTold (now (sent .entry)) ⌝ }
+    ensures { λ r. ⌜ BlockSaid (now (sent .entry)) r ⌝ }
 {
     let mut bytes = [0; BLOCK];
     if sent.len() != BLOCK {
         return Block {
-            there: false,
+            whether: Whether::Refused(Refusal::NotTheReply),
             bytes: bytes,
         };
     }
     octets::copy_to(&mut bytes, 0, sent);
     Block {
-        there: true,
+        whether: Whether::There,
         bytes: bytes,
     }
 }
 
 // The timer that a reply to 0x86 carries.
 pub fn timer_in(sent: &[u8]) -> TimerTold
-    ensures { λ r. ⌜ r ≡ timerTold (now (sent .entry)) ⌝ }
+    ensures { λ r. ⌜ timerSaid r ≡ timerTold (now (sent .entry)) ⌝ }
 {
     if sent.len() != 4 {
-        return TimerTold::Nothing;
+        return TimerTold::Refused(Refusal::NotTheReply);
     }
     TimerTold::Timer(timer::read(sent, 0))
 }
 
 // What a reply to 0x31 carries.
 pub fn sizes_in(sent: &[u8]) -> SizesTold
-    ensures { λ r. ⌜ r ≡ sizesTold (now (sent .entry)) ⌝ }
+    ensures { λ r. ⌜ sizesSaid r ≡ sizesTold (now (sent .entry)) ⌝ }
 {
     if sent.len() != 6 {
-        return SizesTold::Nothing;
+        return SizesTold::Refused(Refusal::NotTheReply);
     }
     SizesTold::Sizes(Sizes {
         size: octets::get16(sent, 0),
@@ -83,14 +96,47 @@ pub fn sizes_in(sent: &[u8]) -> SizesTold
     })
 }
 
+// Whether a reply to 0x22 can carry these data: none, or a count from 1 to 64 and as many records.
+fn is_read_data(sent: &[u8]) -> bool
+    ensures { λ r. ⌜ r ≡ readData (now (sent .entry)) ⌝ }
+{
+    if sent.len() == 0 {
+        return true;
+    }
+    if sent.len() < 2 {
+        return false;
+    }
+    let n = octets::get16(sent, 0) as usize;
+    if n == 0 {
+        return false;
+    }
+    if (SHARE as usize) < n {
+        return false;
+    }
+    sent.len() == 2 + n * RECORD
+}
+
+// How many records a reply to 0x22 carries.
+pub fn count_in(sent: &[u8]) -> CountTold
+    ensures { λ r. ⌜ countSaid r ≡ countTold (now (sent .entry)) ⌝ }
+{
+    if !is_read_data(sent) {
+        return CountTold::Refused(Refusal::NotTheReply);
+    }
+    CountTold::Records(records_for(sent.len()))
+}
+
 // Record i that a reply to 0x22 carries, the oldest first.
 pub fn record_in(sent: &[u8], i: usize) -> RecordTold
-    ensures { λ r. ⌜ r ≡ recordTold (now (sent .entry)) i ⌝ }
+    ensures { λ r. ⌜ recordSaid r ≡ recordTold (now (sent .entry)) i ⌝ }
 {
     if i >= records_for(sent.len()) {
-        return RecordTold::Nothing;
+        return RecordTold::Refused(Refusal::OutOfRange);
     }
-    let at = 2 + i * table::RECORD;
+    if !is_read_data(sent) {
+        return RecordTold::Refused(Refusal::NotTheReply);
+    }
+    let at = 2 + i * RECORD;
     RecordTold::Record(Sighting {
         uid: octets::number64(sent, at),
         timer: timer::read(sent, at + 8),

@@ -11,7 +11,7 @@ returns c =
     let w = i .before in
     let o = w .before in
     let b = o .before .before in
-    rw (← c .kind-of .ensures, ← o .octet-of .ensures, ← w .is-whole .ensures, ← i .ask-if .ensures, ← b .block-in .ensures)
+    rw (← c .kind-of .ensures, ← o .octet-of .ensures, ← w .is-whole .ensures, ← i .ask-if .ensures, ← b .block-in .ensures .bytes-are)
 
 pub request-of-spec : {M : Type 1} → statement M
 request-of-spec =

@@ -1,15 +1,14 @@
 -- `typed::block_in` meets its contract. Assumes nothing.
 use mathlib.Core.Path.{refl}
-use borrow.Author.Tests.{ne-eqb}
-use Rattle.typed.specs.Typed.{blockTold}
-use Rattle.typed.proofs.Telling.{block-said}
+use Rattle.typed.specs.Typed.{bytesOf}
+use Rattle.typed.proofs.Telling.{block-not, block-said}
 use borrow.Author.Needs.{needs}
 use Rattle.typed.proofs.block_in.Statement.{statement}
 use Rattle.typed.proofs.block_in.Tie as tie
 
 returns : tie.Need-returns
-unfolding blockTold
-returns c = rw (ne-eqb _ _ (c .if1 .taken))
+unfolding bytesOf
+returns c = block-not _ _ refl (c .if1 .taken)
 
 returns-2 : tie.Need-returns-2
 returns-2 c = block-said _ _ _ (c .before .before .before .if1 .left) refl (c .before .copy-to .ensures)

@@ -1,14 +1,13 @@
 -- `typed::timer_in` meets its contract. Assumes nothing.
-use borrow.Author.Tests.{ne-eqb}
 use Rattle.typed.specs.Typed.{timerTold}
-use Rattle.typed.proofs.Telling.{timer-told}
+use Rattle.typed.proofs.Telling.{other-length, timer-told}
 use borrow.Author.Needs.{needs}
 use Rattle.typed.proofs.timer_in.Statement.{statement}
 use Rattle.typed.proofs.timer_in.Tie as tie
 
 returns : tie.Need-returns
 unfolding timerTold
-returns c = rw (ne-eqb _ _ (c .if1 .taken))
+returns c = rw (other-length 4 _ (c .if1 .taken))
 
 returns-2 : tie.Need-returns-2
 returns-2 c = timer-told _ _ (c .before .if1 .left) (c .read .ensures)

@@ -1,9 +1,9 @@
--- `depot_c::depot_make` meets its contract: the number of what the maker answers to the request that the numbers name. Assumes nothing.
+-- `host_c::depot_make` meets its contract: the number of what the maker answers to the request that the numbers name. Assumes nothing.
 use native.Mathlib.Omega.{arith}
 use Rattle.codes.proofs.Fits.{framed-fits}
 use borrow.Author.Needs.{needs}
-use Rattle.depot_c.proofs.depot_make.Statement.{statement}
-use Rattle.depot_c.proofs.depot_make.Tie as tie
+use Rattle.host_c.proofs.depot_make.Statement.{statement}
+use Rattle.host_c.proofs.depot_make.Tie as tie
 
 written-code-requires : tie.Need-written-code-requires
 written-code-requires c κs =

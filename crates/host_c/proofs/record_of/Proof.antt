@@ -1,9 +1,9 @@
--- `depot_c::record_of` meets its contract. Assumes nothing.
+-- `host_c::record_of` meets its contract. Assumes nothing.
 use mathlib.Core.Path.{_∙_}
 use Rattle.octets.proofs.Puts.{put-whole}
 use borrow.Author.Needs.{needs}
-use Rattle.depot_c.proofs.record_of.Statement.{statement}
-use Rattle.depot_c.proofs.record_of.Tie as tie
+use Rattle.host_c.proofs.record_of.Statement.{statement}
+use Rattle.host_c.proofs.record_of.Tie as tie
 
 returns : tie.Need-returns
 returns c = c .before .copy-to .ensures ∙ put-whole _ _ (c .before .before .before .before .pre)

@@ -11,7 +11,7 @@ use Rattle.frame.proofs.Numbers.{refuses}
 use Rattle.frame.specs.declared.Refusal.the-variants.{OutOfRange}
 use Rattle.rules.specs.declared.Written.the-variants.{Refused}
 use Rattle.codes.specs.Codes.{writtenCode}
-use Rattle.depot_c.specs.Coded.{notLong, WroteAs}
+use Rattle.host_c.specs.Coded.{notLong, WroteAs}
 
 module _ (size : ℕ) (s : List ℕ) (ts : List (ℕ × Bool)) where
   pub right-length : length s ≡ size → first (notLong size s ∷ ts) ≡ first ts

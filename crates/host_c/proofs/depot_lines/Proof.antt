@@ -1,10 +1,10 @@
--- `depot_c::depot_lines` meets its contract: the length of the block, then the line writer. Assumes nothing.
+-- `host_c::depot_lines` meets its contract: the length of the block, then the line writer. Assumes nothing.
 use native.Mathlib.Omega.{arith}
-use Rattle.depot_c.proofs.Lengths.{refused-length, past-length}
-use Rattle.codes.proofs.Fits.{lined-fits}
+use Rattle.host_c.proofs.Lengths.{refused-length, past-length}
+use Rattle.codes.proofs.Fits.{all-lined-fits}
 use borrow.Author.Needs.{needs}
-use Rattle.depot_c.proofs.depot_lines.Statement.{statement}
-use Rattle.depot_c.proofs.depot_lines.Tie as tie
+use Rattle.host_c.proofs.depot_lines.Statement.{statement}
+use Rattle.host_c.proofs.depot_lines.Tie as tie
 
 returns : tie.Need-returns
 returns c = refused-length _ _ _ _ _ _ (c .before .if1 .taken) (c .written-code .ensures)
@@ -12,7 +12,7 @@ returns c = refused-length _ _ _ _ _ _ (c .before .if1 .taken) (c .written-code 
 written-code-requires-2 : tie.Need-written-code-requires-2
 written-code-requires-2 c κs =
     let l = c .before .before in
-    lined-fits _ _ (l .before .before .before .before .before .before .before .args .out .now) _ _ (omega arith) (l .lines .ensures)
+    all-lined-fits _ _ (l .before .before .before .before .before .before .before .args .out .now) _ _ (omega arith) (l .lines .ensures)
 
 returns-2 : tie.Need-returns-2
 returns-2 c =

@@ -1,10 +1,10 @@
--- `depot_c::depot_line` meets its contract: both lengths, then the line writer. Assumes nothing.
+-- `host_c::depot_line` meets its contract: both lengths, then the line writer. Assumes nothing.
 use native.Mathlib.Omega.{arith}
-use Rattle.depot_c.proofs.Lengths.{refused-length, past-length}
+use Rattle.host_c.proofs.Lengths.{refused-length, past-length}
 use Rattle.codes.proofs.Fits.{lined-fits}
 use borrow.Author.Needs.{needs}
-use Rattle.depot_c.proofs.depot_line.Statement.{statement}
-use Rattle.depot_c.proofs.depot_line.Tie as tie
+use Rattle.host_c.proofs.depot_line.Statement.{statement}
+use Rattle.host_c.proofs.depot_line.Tie as tie
 
 returns : tie.Need-returns
 returns c = refused-length _ _ _ _ _ _ (c .before .if1 .taken) (c .written-code .ensures)

@@ -1,0 +1,72 @@
+-- Numbers told typed, put into the output: a law for each way out. Assumes nothing.
+use Prim.Native.Nat.{ℕ, _≤_, _<_}
+use mathlib.Core.Path.{_≡_, refl, sym, ap, _∙_}
+use mathlib.Core.Bool.{Bool, true, false, cond, not}
+use mathlib.Core.List.{List, [], _∷_}
+use mathlib.Core.Option.{Option, none, some}
+use native.Mathlib.Omega.{arith}
+use lib.ListN.{length}
+use lib.Dec.{eqb}
+use borrow.Author.Tests.{lt-ltb, le-ltb, le-leb, lt-leb, eqb-true}
+use Rattle.octets.specs.Tests.{first}
+use Rattle.octets.specs.Parts.{put}
+use Rattle.frame.specs.declared.Refusal.{Refusal}
+use Rattle.frame.specs.declared.Refusal.the-variants.{OutOfRange, NoRoom}
+use Rattle.frame.specs.Refusal.{numberOf}
+use Rattle.frame.proofs.Numbers.{refuses}
+use Rattle.rules.specs.declared.Written.the-variants.{Octets, Refused}
+use Rattle.rules.specs.Output.{Wrote}
+use Rattle.rules.specs.Records.{recordsFor}
+use Rattle.typed.specs.declared.Sighting.{Sighting}
+use Rattle.typed.specs.Typed.{refused, says, unless, otherLength, recordRefusals, recordTold, countRefusals}
+use Rattle.fields.specs.Fields.{noRoom, recordTests}
+
+-- what was told, and why not
+unless-says : {A : Type 0} (o : Option ℕ) (a b : A) → says b ≡ unless o a → (o ≡ none) × (b ≡ a)
+unless-says none a b e = (refl, cc)
+unless-says (some n) a b e = let z : _≡_ {A = ℕ} 0 1 = cc in absurd (omega arith)
+
+unless-refused : {A : Type 0} (o : Option ℕ) (a : A) (n : ℕ) → refused n ≡ unless o a → o ≡ some n
+unless-refused none a n e = let z : _≡_ {A = ℕ} 0 1 = cc in absurd (omega arith)
+unless-refused (some m) a n e = cc
+
+-- so many numbers, of tests that come after that of the room
+module _ {A : Type 0} (n : ℕ) (ts : List (ℕ × Bool)) (f : A → List ℕ) (a : A) (out : List ℕ) where
+  pub no-room : length out < n → Wrote (first (noRoom n out ∷ ts)) (f a) out (Refused NoRoom) out
+  unfolding first
+  no-room h = rw (lt-ltb _ _ h) (record { outcome = (refuses Refused NoRoom, refl) })
+
+  module _ (room : n ≤ length out) where
+    pub not-told : (r : Refusal) → refused (numberOf r) ≡ unless (first ts) a → Wrote (first (noRoom n out ∷ ts)) (f a) out (Refused r) out
+    unfolding first
+    not-told r e = rw (le-ltb _ _ room, unless-refused (first ts) a (numberOf r) e) (record { outcome = (refuses Refused r, refl) })
+
+    pub told : (b : A) (out′ : List ℕ) → says b ≡ unless (first ts) a → n ≡ length (f a) → out′ ≡ put 0 (f b) out → Wrote (first (noRoom n out ∷ ts)) (f a) out (Octets n) out′
+    unfolding first
+    told b out′ e l o =
+        let u = unless-says (first ts) a b e in
+        rw (le-ltb _ _ room, u .0) (record { outcome = (ap Octets l, o ∙ ap (λ (x : A). put 0 (f x) out) (u .1)) })
+
+-- what was told of data of that length has that length
+pub right : (size : ℕ) (sent b : List ℕ) → says b ≡ unless (first (otherLength size sent)) sent → length sent ≡ size
+unfolding first otherLength
+right size sent b e = go (eqb (length sent) size) refl e
+  where
+    go : (t : Bool) → eqb (length sent) size ≡ t → says b ≡ unless (cond (not t) (some 8) none) sent → length sent ≡ size
+    go true q e = eqb-true _ _ q
+    go false q e = let z : _≡_ {A = ℕ} 0 1 = cc in absurd (omega arith)
+
+-- ---- record i, whose first test is that it is not beyond the last
+
+module _ (sent : List ℕ) (i : ℕ) (t out : List ℕ) where
+  pub beyond : recordsFor (length sent) ≤ i → Wrote (first (recordTests sent i out)) t out (Refused OutOfRange) out
+  unfolding first
+  beyond h = rw (le-leb _ _ h) (record { outcome = (refuses Refused OutOfRange, refl) })
+
+  pub within : (h : i < recordsFor (length sent)) → first (recordTests sent i out) ≡ first (noRoom 5 out ∷ countRefusals sent)
+  unfolding first
+  within h = rw (lt-leb _ _ h)
+
+pub within-told : (sent : List ℕ) (i : ℕ) → i < recordsFor (length sent) → first (recordRefusals sent i) ≡ first (countRefusals sent)
+unfolding first recordRefusals
+within-told sent i h = rw (lt-leb _ _ h)
