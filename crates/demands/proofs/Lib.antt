@@ -4,3 +4,4 @@ pub mod Listed
 pub mod Isolated
 pub mod Useless
 pub mod Demands
+pub mod Alone

@@ -24,8 +24,8 @@ stepOn s e = cond (sound s) (step (view s) e) record { answer = refused Unsound;
 abbrev pub Kept : List ℕ → List ℕ → List ℕ → List ℕ → Type 0
 Kept s out s′ out′ = (s′ ≡ s) × (out′ ≡ out)
 
--- a call that is not refused leaves a sound store that says the next box; its areas lie where they lay, and every octet outside header,
--- rows and entries is as before
+-- a call that is not refused leaves a sound store that says the next box, with its areas where they were, and every octet outside header,
+-- rows and entries as before
 pub record Next (box : Box) (s s′ : List ℕ) : Type 0 where
   pub still : sound s′ ≡ true
   pub says : view s′ ≡ box

@@ -16,7 +16,7 @@ use Rattle.keeping.specs.declared.Marks.{Marks}
 abbrev pub kept : ℕ → List ℕ → Desk
 kept d s = deskAt (view s) d
 
--- the store is sound and says desk′ at d, and all else as before; its areas lie where they lay, and the octets outside them are as they were
+-- the store is sound and says desk′ at d, and all else as before; its areas stay where they lie, and the octets outside them as they are
 pub record Says (d : ℕ) (desk′ : Desk) (s s′ : List ℕ) : Type 0 where
   pub still : sound s′ ≡ true
   pub view-is : view s′ ≡ set (view s) d desk′

@@ -14,7 +14,7 @@ pub record Sighted (d uid mask : ℕ) (seen : Seen) (s s′ : List ℕ) : Type 0
   pub seen-is : seen ≡ seenAs uid (kept d s)
   pub says : Says d (afterSeen seen uid mask (kept d s)) s s′
 
--- every desk is ticked; the areas and the octets outside them are as `Says` has them
+-- every desk is ticked; the areas stay where they lie, and the octets outside them as they are
 pub record Ticked (s s′ : List ℕ) : Type 0 where
   pub still : sound s′ ≡ true
   pub view-is : view s′ ≡ map ticked (view s)
