@@ -77,8 +77,8 @@ module _ (q : Request) (c : Carriable q) (s : List ℕ) (still : sound s ≡ tru
           there = there;
           read-is = rw there (back .0);
           data-is = rw there (back .1);
-          still = e .2 .0;
-          says = e .2 .1 ∙ next;
+          still = e .2 .still;
+          says = e .2 .says ∙ next;
         }
 
 -- ---- what the maker made is the request's frame, and one that a box answers

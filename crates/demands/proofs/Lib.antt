@@ -5,3 +5,4 @@ pub mod Listed
 pub mod Isolated
 pub mod Useless
 pub mod Demands
+pub mod Alone

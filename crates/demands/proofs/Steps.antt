@@ -48,9 +48,9 @@ module _ (d : Deed) (s s′ : List ℕ) (q : sound s ≡ true) where
       → Ended t box s (lentTo (d .call)) (d .answer) s′ (d .output) → Stepped (record { answer = t; box = box }) d s′
   by-answer (refused r) box keep e =
       record { still = ap sound (e .1 .0) ∙ q; says = ap view (e .1 .0) ∙ sym (keep r refl); gave = (e .0, e .1 .1) }
-  by-answer (reply t) box keep e = record { still = e .2 .0; says = e .2 .1; gave = (e .0, e .1) }
-  by-answer (seen w) box keep e = record { still = e .2 .0; says = e .2 .1; gave = (e .0, e .1) }
-  by-answer ok box keep e = record { still = e .2 .0; says = e .2 .1; gave = (e .0, e .1) }
+  by-answer (reply t) box keep e = record { still = e .2 .still; says = e .2 .says; gave = (e .0, e .1) }
+  by-answer (seen w) box keep e = record { still = e .2 .still; says = e .2 .says; gave = (e .0, e .1) }
+  by-answer ok box keep e = record { still = e .2 .still; says = e .2 .says; gave = (e .0, e .1) }
 
   pub stepped : Called (eventOf (d .call)) s (lentTo (d .call)) (d .answer) s′ (d .output) → Stepped (step (view s) (eventOf (d .call))) d s′
   unfolding stepOn

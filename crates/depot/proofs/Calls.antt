@@ -80,15 +80,15 @@ module _ (f s s′ out out′ body : List ℕ) (p : Frame) (r : DeskReply) (q : 
       record {
         ended =
             rw (q, accepted f (length out) room p is low, ← sound-parts Request f p is, ← same)
-            (ap Replied size, made, (y .says .still, y .says .view-is));
+            (ap Replied size, made, record { still = y .says .still; says = y .says .view-is; alone = y .says .alone });
       }
 
 pub sighting-answered : (n uid mask : ℕ) (w : Seen) (s s′ out : List ℕ) → sound s ≡ true → first (sightingRefusals n mask) ≡ none → DeskSighted n uid mask w s s′
     → Called (sighting n uid mask) s out (Sighted w) s′ out
 unfolding stepOn step unlessRefused placed sighted
 sighting-answered n uid mask w s s′ out q e y =
-    record { ended = rw (q, e, ← y .seen-is) (refl, refl, (y .says .still, y .says .view-is)) }
+    record { ended = rw (q, e, ← y .seen-is) (refl, refl, record { still = y .says .still; says = y .says .view-is; alone = y .says .alone }) }
 
 pub ticked-answered : (s s′ out : List ℕ) → sound s ≡ true → Ticked s s′ → Called tick s out Done s′ out
 unfolding stepOn step
-ticked-answered s s′ out q y = record { ended = rw q (refl, refl, (y .still, y .view-is)) }
+ticked-answered s s′ out q y = record { ended = rw q (refl, refl, record { still = y .still; says = y .view-is; alone = y .alone }) }

@@ -21,11 +21,11 @@ ended-once : (t : RuleAnswer) (box : Box) (s out : List ℕ) (a b : Answer) (s�
 ended-once (refused n) box s out a b s′ s″ out′ out″ p q =
     record { answers = refuses-once Refused n a b (p .0) (q .0); outputs = p .1 .1 ∙ sym (q .1 .1); views = ap view (p .1 .0 ∙ sym (q .1 .0)) }
 ended-once (reply t) box s out a b s′ s″ out′ out″ p q =
-    record { answers = p .0 ∙ sym (q .0); outputs = p .1 ∙ sym (q .1); views = p .2 .1 ∙ sym (q .2 .1) }
+    record { answers = p .0 ∙ sym (q .0); outputs = p .1 ∙ sym (q .1); views = p .2 .says ∙ sym (q .2 .says) }
 ended-once (seen w) box s out a b s′ s″ out′ out″ p q =
-    record { answers = p .0 ∙ sym (q .0); outputs = p .1 ∙ sym (q .1); views = p .2 .1 ∙ sym (q .2 .1) }
+    record { answers = p .0 ∙ sym (q .0); outputs = p .1 ∙ sym (q .1); views = p .2 .says ∙ sym (q .2 .says) }
 ended-once ok box s out a b s′ s″ out′ out″ p q =
-    record { answers = p .0 ∙ sym (q .0); outputs = p .1 ∙ sym (q .1); views = p .2 .1 ∙ sym (q .2 .1) }
+    record { answers = p .0 ∙ sym (q .0); outputs = p .1 ∙ sym (q .1); views = p .2 .says ∙ sym (q .2 .says) }
 
 pub once : (e : Event) (s out : List ℕ) (a b : Answer) (s′ s″ out′ out″ : List ℕ) → Called e s out a s′ out′ → Called e s out b s″ out″ → Same a b out′ out″ s′ s″
 once e s out a b s′ s″ out′ out″ p q = ended-once (stepOn s e .answer) (stepOn s e .box) s out a b s′ s″ out′ out″ (p .ended) (q .ended)

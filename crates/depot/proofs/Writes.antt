@@ -41,7 +41,7 @@ module _ (f s out : List ℕ) (a : Answer) (s′ out′ : List ℕ) (called : Ca
       let is : answered (request f .kind) desk (request f .control) body ≡ done (writtenDesk body desk) =
       ap (λ (c : ℕ). answered (request f .kind) desk c body) write ∙ write-accepted (request f .kind) desk body legal in
       let t = rw (e, passed, is) at (called .ended) in
-      (t .0, t .1, t .2 .1)
+      (t .0, t .1, t .2 .says)
 
   pub turned : writeLegal desk body ≡ false → (status : ℕ) × (status ≡ 0x00 → ⊥) × (a ≡ Reply (length (told status))) × (out′ ≡ put 0 (told status) out) × (view s′ ≡ view s)
   unfolding stepOn step unlessRefused placed served deskAt
@@ -50,4 +50,4 @@ module _ (f s out : List ℕ) (a : Answer) (s′ out′ : List ℕ) (called : Ca
       let is : Turned desk r =
       subst (λ (c : ℕ). Turned desk (answered (request f .kind) desk c body)) (sym write) (write-turned (request f .kind) desk body illegal) in
       let t = rw (e, passed, is .none, is .same) at (called .ended) in
-      (r .status, is .told, t .0, t .1, t .2 .1 ∙ set-getD (view s) (request f .address) freshDesk)
+      (r .status, is .told, t .0, t .1, t .2 .says ∙ set-getD (view s) (request f .address) freshDesk)

@@ -13,6 +13,7 @@ use Rattle.rules.specs.Box.{Box, Event, Answer as RuleAnswer, refused, reply, s
 use Rattle.store.specs.Layout.{storeSize}
 use Rattle.store.specs.View.{view}
 use Rattle.store.specs.Sound.{sound}
+use Rattle.store.specs.Untouched.{Untouched}
 use Rattle.fresh.specs.Fresh.{freshStore}
 use Rattle.depot.specs.declared.Answer.{Answer}
 use Rattle.depot.specs.declared.Answer.the-variants.{Refused, Reply, Sighted, Done}
@@ -25,16 +26,19 @@ stepOn s e = cond (sound s) (step (view s) e) record { answer = refused 1; box =
 abbrev pub Kept : List ℕ → List ℕ → List ℕ → List ℕ → Type 0
 Kept s out s′ out′ = (s′ ≡ s) × (out′ ≡ out)
 
--- a call that is not refused leaves a sound store that says the next box
-abbrev pub Next : Box → List ℕ → Type 0
-Next box s′ = (sound s′ ≡ true) × (view s′ ≡ box)
+-- a call that is not refused leaves a sound store that says the next box, with its areas where they were, and every octet outside header,
+-- rows and entries as before
+pub record Next (box : Box) (s s′ : List ℕ) : Type 0 where
+  pub still : sound s′ ≡ true
+  pub says : view s′ ≡ box
+  pub alone : Untouched s s′
 
 -- the rules' answer, as the call gives it: a reply stands at the start of the output, and the octets after it stay
 abbrev pub Ended : RuleAnswer → Box → List ℕ → List ℕ → Answer → List ℕ → List ℕ → Type 0
 Ended (refused n) box s out a s′ out′ = Refuses Refused n a × Kept s out s′ out′
-Ended (reply t) box s out a s′ out′ = (a ≡ Reply (length t)) × (out′ ≡ put 0 t out) × Next box s′
-Ended (seen w) box s out a s′ out′ = (a ≡ Sighted w) × (out′ ≡ out) × Next box s′
-Ended ok box s out a s′ out′ = (a ≡ Done) × (out′ ≡ out) × Next box s′
+Ended (reply t) box s out a s′ out′ = (a ≡ Reply (length t)) × (out′ ≡ put 0 t out) × Next box s s′
+Ended (seen w) box s out a s′ out′ = (a ≡ Sighted w) × (out′ ≡ out) × Next box s s′
+Ended ok box s out a s′ out′ = (a ≡ Done) × (out′ ≡ out) × Next box s s′
 
 -- one relation for all events: store and output before, the answer, store and output after
 pub record Called (e : Event) (s out : List ℕ) (a : Answer) (s′ out′ : List ℕ) : Type 0 where

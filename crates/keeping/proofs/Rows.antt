@@ -22,6 +22,7 @@ use Rattle.store.specs.View.{deskIn, rowsIn, inUse, viewOf, view}
 use Rattle.store.specs.Sound.{sound}
 use Rattle.store.proofs.Boxes.{box-length}
 use Rattle.store.proofs.Changes.{Flagged, Sound, sound-facts, sound-test}
+use Rattle.store.proofs.Untouched.{untouched-same, untouched-then}
 use Rattle.views.proofs.Anew.{row-length, row-flags, desk-is, Left, row-anew, entries-anew, row-inside as inside}
 use Rattle.views.proofs.LegalView.{legal-at, few-locks as locks-few}
 use Rattle.rows.specs.Change.{Fit, Change}
@@ -53,7 +54,7 @@ module _ (s : List ℕ) (e : sound s ≡ true) (d : ℕ) (h : d < desks) where
 
   pub unchanged : Says d (kept d s) s s
   unfolding deskAt
-  unchanged = record { still = e; view-is = sym (set-getD (view s) d freshDesk) }
+  unchanged = record { still = e; view-is = sym (set-getD (view s) d freshDesk); alone = untouched-same s }
 
   -- a change of the row that leaves a legal desk
   pub row-changed : (f : Desk → Desk) (row : List ℕ) → Change f (rowOf d s) row → DeskLegal (f (kept d s)) → Says d (f (kept d s)) s (put (rowAt d s) row s)
@@ -61,7 +62,7 @@ module _ (s : List ℕ) (e : sound s ≡ true) (d : ℕ) (h : d < desks) where
       let q : deskIn row (recordsOf d (inUse s)) ≡ f (kept d s) = c .means (recordsOf d (inUse s)) ∙ ap f (sym kept-is) in
       let flags : Flagged row = record { login = c .fit .login; mark = c .fit .mark } in
       let left : Left d row (recordsOf d (inUse s)) s (put (rowAt d s) row s) = row-anew s facts d h row (c .fit .size) flags (rw q p) in
-      record { still = sound-test _ (left .still); view-is = left .now-view ∙ ap (set (view s) d) q }
+      record { still = sound-test _ (left .still); view-is = left .now-view ∙ ap (set (view s) d) q; alone = left .alone }
 
   -- the entries anew: those of other desks as they were
   pub entries-say : (t : List ℕ) (n : ℕ) (desk′ : Desk) → (l : length t ≡ sizeOf entriesArea) → (few : n ≤ entryCount) → ownersBelow desks (entries n t) ≡ true
@@ -70,7 +71,7 @@ module _ (s : List ℕ) (e : sound s ≡ true) (d : ℕ) (h : d < desks) where
       → Says d desk′ s (recounted n (put (startOf (header s) entriesArea) t s))
   entries-say t n desk′ l few ok others q p =
       let left : Left d (rowOf d s) (recordsOf d (entries n t)) s (recounted n (put (startOf (header s) entriesArea) t s)) = entries-anew s facts d h t l n few ok others (rw q p) in
-      record { still = sound-test _ (left .still); view-is = left .now-view ∙ ap (set (view s) d) q }
+      record { still = sound-test _ (left .still); view-is = left .now-view ∙ ap (set (view s) d) q; alone = left .alone }
 
   -- ---- the row, lent: at is where it begins
 
@@ -106,7 +107,12 @@ module _ (s : List ℕ) (e : sound s ≡ true) (d : ℕ) (h : d < desks) where
 -- ---- one after the other at the same desk
 
 pub says-then : (d : ℕ) (one two : Desk) (s s′ s″ : List ℕ) → Says d one s s′ → Says d two s′ s″ → Says d two s s″
-says-then d one two s s′ s″ a b = record { still = b .still; view-is = b .view-is ∙ ap (λ (v : List Desk). set v d two) (a .view-is) ∙ set-set (view s) d one two }
+says-then d one two s s′ s″ a b =
+    record {
+      still = b .still;
+      view-is = b .view-is ∙ ap (λ (v : List Desk). set v d two) (a .view-is) ∙ set-set (view s) d one two;
+      alone = untouched-then s s′ s″ (a .alone) (b .alone);
+    }
 
 pub view-length : (s : List ℕ) → length (view s) ≡ desks
 unfolding view viewOf

@@ -8,6 +8,7 @@ use Rattle.rules.specs.Desk.{Desk}
 use Rattle.rules.specs.Box.{deskAt}
 use Rattle.store.specs.View.{view}
 use Rattle.store.specs.Sound.{sound}
+use Rattle.store.specs.Untouched.{Untouched}
 use Rattle.doings.specs.Doing.{onTable, heldTable}
 use Rattle.keeping.specs.declared.Marks.{Marks}
 
@@ -15,10 +16,11 @@ use Rattle.keeping.specs.declared.Marks.{Marks}
 abbrev pub kept : ℕ → List ℕ → Desk
 kept d s = deskAt (view s) d
 
--- the store is sound and says desk′ at d, and all else as before
+-- the store is sound and says desk′ at d, and all else as before; its areas stay where they lie, and the octets outside them as they are
 pub record Says (d : ℕ) (desk′ : Desk) (s s′ : List ℕ) : Type 0 where
   pub still : sound s′ ≡ true
   pub view-is : view s′ ≡ set (view s) d desk′
+  pub alone : Untouched s s′
 
 -- login, overflow mark, removal due, TAB-START
 unfoldable pub marksOf : Desk → Marks

@@ -8,6 +8,7 @@ use native.Mathlib.Numerals.{add-one}
 use native.Mathlib.Nat.{add-suc, suc-add, add-zero, zero-add}
 use native.Mathlib.Decide.{decLt}
 use native.Mathlib.Omega.{arith}
+use lib.Dec.{lit<}
 use lib.ListN.{length, take, drop, set, getD, length-set, length-take, length-drop}
 use lib.Seq.{take-set-le, drop-set-lt, take-set-lt, drop-set-add, set-comm, set-set, take-nil, take-take, drop-drop, take-suc, length-take-le, getD-take, getD-drop}
 use Rattle.octets.specs.Parts.{part, put, Apart}
@@ -171,6 +172,15 @@ part-part i m at n s h =
 pub part-at : (at n : ℕ) (s : List ℕ) (i : ℕ) → i < n → getD (part at n s) i 0 ≡ getD s (at + i) 0
 unfolding part
 part-at at n s i h = getD-take n (drop at s) i 0 h ∙ getD-drop at s i 0
+
+-- an octet, as a part of one
+pub octet-part : (at : ℕ) (s : List ℕ) → getD s at 0 ≡ getD (part at 1 s) 0 0
+octet-part at s = sym (part-at at 1 s 0 (lit< tt) ∙ rw add-zero)
+
+-- an octet that lies elsewhere than a put
+pub octet-away : (i at : ℕ) (xs s : List ℕ) → Apart at (length xs) i 1 → getD (put at xs s) i 0 ≡ getD s i 0
+octet-away i at xs s h =
+    octet-part i (put at xs s) ∙ ap (λ (r : List ℕ). getD r 0 0) (part-put-away i 1 at xs s h) ∙ sym (octet-part i s)
 
 pub part-none : (at : ℕ) (s : List ℕ) → part at 0 s ≡ []
 unfolding part

@@ -13,6 +13,8 @@ use Rattle.rules.specs.Sighting.{ticked}
 use Rattle.rules.specs.Box.{deskAt}
 use Rattle.store.specs.View.{view}
 use Rattle.store.specs.Sound.{sound}
+use Rattle.store.specs.Untouched.{Untouched}
+use Rattle.store.proofs.Untouched.{untouched-same, untouched-then}
 use Rattle.keeping.specs.Kept.{kept, Says}
 use Rattle.keeping.proofs.Rows.{view-length}
 use Rattle.sightings.specs.Sighted.{Ticked}
@@ -33,9 +35,10 @@ turned-all f i v h = rw (take-all i (map f v) (omega (arith, length-map v f)), d
 pub record TickedTo (n : ℕ) (s s′ : List ℕ) : Type 0 where
   pub still : sound s′ ≡ true
   pub view-is : view s′ ≡ turned ticked n (view s)
+  pub alone : Untouched s s′
 
 pub ticked-none : (s : List ℕ) → sound s ≡ true → TickedTo 0 s s
-ticked-none s e = record { still = e; view-is = refl }
+ticked-none s e = record { still = e; view-is = refl; alone = untouched-same s }
 
 pub ticked-more : (n : ℕ) (s s′ s″ : List ℕ) → n < desks → TickedTo n s s′ → Says n (ticked (kept n s′)) s′ s″ → TickedTo (n + 1) s s″
 unfolding deskAt
@@ -43,7 +46,8 @@ ticked-more n s s′ s″ h a b =
     record {
       still = b .still;
       view-is = b .view-is ∙ rw (a .view-is, add-one) (turn ticked n (view s) freshDesk (omega (arith, view-length s)));
+      alone = untouched-then s s′ s″ (a .alone) (b .alone);
     }
 
 pub ticked-all : (n : ℕ) (s s′ : List ℕ) → desks ≤ n → TickedTo n s s′ → Ticked s s′
-ticked-all n s s′ h a = record { still = a .still; view-is = a .view-is ∙ turned-all ticked n (view s) (omega (arith, view-length s)) }
+ticked-all n s s′ h a = record { still = a .still; view-is = a .view-is ∙ turned-all ticked n (view s) (omega (arith, view-length s)); alone = a .alone }

@@ -6,3 +6,4 @@ pub mod LentAreas
 pub mod Boxes
 pub mod RowTests
 pub mod Changes
+pub mod Untouched

@@ -1,6 +1,6 @@
 -- A desk's row anew, or the entries anew: the store stays sound, and the view changes at that desk alone. Assumes nothing.
 use Prim.Native.Nat.{ℕ, _+_, _*_, _≤_, _<_}
-use mathlib.Core.Path.{_≡_, sym, ap, _∙_}
+use mathlib.Core.Path.{_≡_, sym, ap, subst, _∙_}
 use mathlib.Core.List.{List, []}
 use mathlib.Core.Bool.{true}
 use native.Mathlib.Nat.{add-zero, zero-add}
@@ -20,10 +20,12 @@ use Rattle.rules.proofs.Facts.{DeskLegal, BoxLegal}
 use Rattle.store.specs.Layout.{recounted, storeSize, rowWidth, sizeOf, header, startOf, usedOf, area, areas, rowAt, rowOf, headerArea, rowsArea, entriesArea, usedAt}
 use Rattle.store.specs.Rows.{field}
 use Rattle.store.specs.View.{deskIn, rowsIn, entriesIn, inUse, viewOf, view}
+use Rattle.store.specs.Untouched.{Untouched}
 use Rattle.store.proofs.LentAreas.{row-in}
 use Rattle.store.proofs.Places.{used-counted, counted-fine}
 use Rattle.views.proofs.Boxes.{box-at, box-row, box-records}
 use Rattle.store.proofs.Changes.{Flagged, Sound, area-length, into-area, header-kept, header-counted, header-length, into-count}
+use Rattle.store.proofs.Untouched.{untouched-then, untouched-into, untouched-count}
 
 none-flagged : Flagged []
 unfolding field part number
@@ -58,6 +60,7 @@ set-legal box d desk p q = record { size = simp length-set (p .size); each = all
 pub record Left (d : ℕ) (row : List ℕ) (rs : List (List ℕ)) (s s′ : List ℕ) : Type 0 where
   pub still : Sound s′
   pub now-view : view s′ ≡ set (view s) d (deskIn row rs)
+  pub alone : Untouched s s′
 
 -- ---- the row of a desk anew
 
@@ -94,6 +97,7 @@ module _ (s : List ℕ) (f : Sound s) (d : ℕ) (h : d < desks) (row : List ℕ)
               box = rw says (set-legal (view s) d _ (f .box) legal);
             };
         now-view = says;
+        alone = untouched-into s (f .head) rowsArea (rowWidth * d) row (lit< tt) (lit< tt) (omega arith);
       }
 
 -- ---- the entries anew, with their count
@@ -105,6 +109,9 @@ module _ (s : List ℕ) (f : Sound s) (d : ℕ) (h : d < desks) (t : List ℕ) (
 
   head-kept : header refilled ≡ header s
   head-kept = ap (λ (p : ℕ). header (put p t s)) (sym (add-zero (startOf (header s) entriesArea))) ∙ header-kept s (f .head) entriesArea 0 t (lit< tt) (omega arith) (lit< tt)
+
+  refilled-alone : Untouched s refilled
+  refilled-alone = subst (λ (p : ℕ). Untouched s (put p t s)) (add-zero (startOf (header s) entriesArea)) (untouched-into s (f .head) entriesArea 0 t (lit< tt) (lit< tt) (omega arith))
 
   size-kept : length refilled ≡ storeSize
   size-kept = put-length (startOf (header s) entriesArea) t s ∙ f .size
@@ -145,4 +152,5 @@ module _ (s : List ℕ) (f : Sound s) (d : ℕ) (h : d < desks) (t : List ℕ) (
               box = rw says (set-legal (view s) d _ (f .box) legal);
             };
         now-view = says;
+        alone = untouched-then s refilled (recounted n refilled) refilled-alone (untouched-count refilled n);
       }
