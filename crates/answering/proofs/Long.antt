@@ -20,7 +20,7 @@ use Rattle.rules.specs.Box.{frame, Step, frameRefusals, unlessRefused, step}
 use Rattle.rules.proofs.Refusals.{small-buffer, judge-refused}
 use Rattle.depot.specs.declared.Answer.{Answer}
 use Rattle.depot.specs.Called.{stepOn, Ended, Called}
-use Rattle.depot.proofs.Replying.{longest-fits}
+use Rattle.frame.proofs.Bounds.{longest-fits}
 use Rattle.text.specs.Digits.{octetsOf}
 use Rattle.text.proofs.Values.{octets-length}
 

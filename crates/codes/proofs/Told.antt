@@ -12,7 +12,7 @@ use Rattle.octets.proofs.Tests.{none-head, none-tail}
 use Rattle.frame.specs.declared.Way.the-variants.{Reply}
 use Rattle.frame.specs.Shape.{shapeOf, replyRoom}
 use Rattle.frame.specs.Judged.{kindOf, faults, partsOf}
-use Rattle.depot.proofs.Replying.{longest-fits}
+use Rattle.frame.proofs.Bounds.{longest-fits}
 use Rattle.requests.specs.declared.Request.{Request}
 use Rattle.reader.specs.declared.Told.{Told}
 use Rattle.reader.specs.Reader.{found, finding, toldOf, readerRefusals, readAs}

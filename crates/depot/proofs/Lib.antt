@@ -1,4 +1,3 @@
-pub mod Replying
 pub mod Calls
 pub mod Once
 pub mod Writes

@@ -11,6 +11,7 @@ use Rattle.octets.specs.Tests.{first}
 use Rattle.frame.specs.declared.Kind.{Kind}
 use Rattle.frame.specs.Judged.{dataOf}
 use Rattle.frame.specs.Sealed.{frameOf}
+use Rattle.frame.proofs.Bounds.{longest-fits}
 use Rattle.frame.proofs.Lengths.{length-frame}
 use Rattle.rules.specs.Control.{known}
 use Rattle.rules.specs.Command.{answered}
@@ -24,7 +25,6 @@ use Rattle.views.proofs.LegalView.{desk-of-view}
 use Rattle.depot.specs.declared.Answer.{Answer}
 use Rattle.depot.specs.declared.Answer.the-variants.{Refused, Reply, Sighted, Done}
 use Rattle.depot.specs.Called.{Called, Ended, stepOn}
-use Rattle.depot.proofs.Replying.{longest-fits}
 
 abbrev pub Short : Answer → Type 0
 Short (Refused r) = Unit {0}

@@ -7,7 +7,6 @@ use frame::Refusal;
 use frame::Way;
 use rules::Seen;
 use rules::no_desk;
-use seal::Sealed;
 ghost use mathlib.Core.Path.{_≡_};
 ghost use mathlib.Core.Bool.{true};
 ghost use mathlib.Core.List.{[]};
@@ -55,25 +54,10 @@ fn served(store: &mut [u8], frame: &[u8], f: Frame, out: &mut [u8]) -> Answer
     requires { ⌜ (sound (now store) ≡ true) × (judged Way.Request (now frame) ≡ Verdict.wellFormed f) × (replyRoom ≤ length (now out)) ⌝ }
     ensures { λ r. ⌜ Called (Event.frame (now (frame .entry)) (length (now (out .entry)))) (now (store .entry)) (now (out .entry)) r (now (store .exit)) (now (out .exit)) ⌝ }
 {
-    let address = f.address;
-    if no_desk(address as u64) {
+    if no_desk(f.address as u64) {
         return Answer::Refused(Refusal::NoDesk);
     }
-    let start = f.start;
-    let end = start + f.len;
-    let kind = f.kind;
-    let r = desk::serve(
-        store,
-        address as usize,
-        kind,
-        f.control,
-        &frame[start..end],
-        out,
-    );
-    match seal::seal_reply(out, kind, address, f.control, r.status, r.len) {
-        Sealed::Octets(n) => Answer::Reply(n),
-        Sealed::Not => Answer::Done,
-    }
+    Answer::Reply(replying::reply(store, frame, f, out))
 }
 
 // A frame arrives.

@@ -1,0 +1,63 @@
+-- The numbers that each call of the host side can give, exactly and in rising order, where `demands` has not said it: the line writer 6, 7,
+-- typed access 8 (of a record 6, 8), with an output 7 too. Assumes nothing.
+use Prim.Native.Nat.{ℕ}
+use mathlib.Core.Path.{_≡_, refl}
+use mathlib.Core.Bool.{true}
+use mathlib.Core.List.{List, [], _∷_}
+use Rattle.frame.specs.Refusal.{numbersOf, rises}
+use Rattle.typed.specs.Typed.{otherLength, countRefusals, recordRefusals}
+use Rattle.lines.specs.Lines.{lineRefusals, linesRefusals}
+use Rattle.fields.specs.Fields.{blockRefusals, timerRefusals, sizesRefusals, recordTests}
+
+pub line-numbers : (block text : List ℕ) (room : ℕ) → numbersOf (lineRefusals block text room) ≡ 6 ∷ 7 ∷ []
+unfolding lineRefusals
+line-numbers block text room = refl
+
+pub lines-numbers : (block sent : List ℕ) (room : ℕ) → numbersOf (linesRefusals block sent room) ≡ 6 ∷ 6 ∷ 7 ∷ []
+unfolding linesRefusals
+lines-numbers block sent room = refl
+
+-- of a block, a timer, the sizes
+pub typed-numbers : (size : ℕ) (sent : List ℕ) → numbersOf (otherLength size sent) ≡ 8 ∷ []
+unfolding otherLength
+typed-numbers size sent = refl
+
+pub count-numbers : (sent : List ℕ) → numbersOf (countRefusals sent) ≡ 8 ∷ []
+unfolding countRefusals
+count-numbers sent = refl
+
+pub record-numbers : (sent : List ℕ) (i : ℕ) → numbersOf (recordRefusals sent i) ≡ 6 ∷ 8 ∷ []
+unfolding recordRefusals countRefusals
+record-numbers sent i = refl
+
+-- the same as numbers in an output
+module _ (sent out : List ℕ) where
+  pub block-put-numbers : numbersOf (blockRefusals sent out) ≡ 7 ∷ 8 ∷ []
+  unfolding otherLength
+  block-put-numbers = refl
+
+  pub timer-put-numbers : numbersOf (timerRefusals sent out) ≡ 7 ∷ 8 ∷ []
+  unfolding otherLength
+  timer-put-numbers = refl
+
+  pub sizes-put-numbers : numbersOf (sizesRefusals sent out) ≡ 7 ∷ 8 ∷ []
+  unfolding otherLength
+  sizes-put-numbers = refl
+
+  pub record-put-numbers : (i : ℕ) → numbersOf (recordTests sent i out) ≡ 6 ∷ 7 ∷ 8 ∷ []
+  unfolding countRefusals
+  record-put-numbers i = refl
+
+-- ---- and they rise
+
+pub line-rises : (block text : List ℕ) (room : ℕ) → rises (numbersOf (lineRefusals block text room)) ≡ true
+line-rises block text room = rw (line-numbers block text room)
+
+pub lines-rises : (block sent : List ℕ) (room : ℕ) → rises (numbersOf (linesRefusals block sent room)) ≡ true
+lines-rises block sent room = rw (lines-numbers block sent room)
+
+pub record-rises : (sent : List ℕ) (i : ℕ) → rises (numbersOf (recordRefusals sent i)) ≡ true
+record-rises sent i = rw (record-numbers sent i)
+
+pub record-put-rises : (sent out : List ℕ) (i : ℕ) → rises (numbersOf (recordTests sent i out)) ≡ true
+record-put-rises sent out i = rw (record-put-numbers sent out i)
