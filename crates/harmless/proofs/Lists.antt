@@ -1,7 +1,7 @@
 -- The numbers that each call of the host side can give, exactly and in rising order, where `demands` has not said it: the line writer 6, 7,
 -- typed access 8 (of a record 6, 8), with an output 7 too. Assumes nothing.
 use Prim.Native.Nat.{ℕ}
-use mathlib.Core.Path.{_≡_, refl}
+use mathlib.Core.Path.{_≡_, refl, ap}
 use mathlib.Core.Bool.{true}
 use mathlib.Core.List.{List, [], _∷_}
 use Rattle.frame.specs.Refusal.{numbersOf, rises}
@@ -60,4 +60,4 @@ pub record-rises : (sent : List ℕ) (i : ℕ) → rises (numbersOf (recordRefus
 record-rises sent i = rw (record-numbers sent i)
 
 pub record-put-rises : (sent out : List ℕ) (i : ℕ) → rises (numbersOf (recordTests sent i out)) ≡ true
-record-put-rises sent out i = rw (record-put-numbers sent out i)
+record-put-rises sent out i = ap rises (record-put-numbers sent out i)
