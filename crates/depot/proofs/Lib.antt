@@ -3,3 +3,4 @@ pub mod Calls
 pub mod Once
 pub mod Writes
 pub mod Short
+pub mod Steps
