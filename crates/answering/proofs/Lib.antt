@@ -1,3 +1,4 @@
 pub mod Long
 pub mod NoHex
 pub mod Room
+pub mod Meaning

@@ -19,7 +19,7 @@ use Rattle.store.specs.Sound.{sound}
 use Rattle.views.proofs.FreshBox.{fresh-sound, fresh-view}
 use Rattle.depot.specs.declared.Answer.the-variants.{Refused, Done}
 use Rattle.depot.specs.Called.{Ended, Called, Made}
-use Rattle.depot.proofs.Steps.{Left, ended-sound, left-sound}
+use Rattle.depot.proofs.Steps.{Left, ended-sound, left-sound, fresh-left}
 use Rattle.demands.specs.History.{eventOf, lentTo, Deed, eventsOf, Ran, History}
 use Rattle.demands.specs.Answers.{Gave, GaveAll}
 
@@ -61,14 +61,7 @@ led (d ∷ ds) s s″ q (s′, c, r) =
 
 -- ---- from a fresh store
 
-fresh-is : (buffer fresh : List ℕ) → Made buffer Done fresh → fresh ≡ freshStore
-fresh-is buffer fresh m = go (eqb (length buffer) storeSize) (m .answer-is) (m .store-is)
-  where
-    go : (b : Bool) → Done ≡ cond b Done (Refused Unsound) → fresh ≡ cond b freshStore buffer → fresh ≡ freshStore
-    go true a e = e
-    go false a e = let z : _≡_ {A = ℕ} 0 1 = cc in absurd (omega arith)
-
 pub lived : (ds : List Deed) (s : List ℕ) → History ds s → Led freshBox ds s
 lived ds s h =
-    let e = fresh-is (h .buffer) (h .fresh) (h .made) in
-    subst (λ (b : Box). Led b ds s) (ap view e ∙ fresh-view) (led ds (h .fresh) s (ap sound e ∙ fresh-sound) (h .ran))
+    let l = fresh-left (h .buffer) (h .fresh) (h .made) in
+    subst (λ (b : Box). Led b ds s) (l .says) (led ds (h .fresh) s (l .still) (h .ran))

@@ -1,17 +1,24 @@
--- On a sound store a call leaves a sound store that says the rules' next box. Assumes nothing.
+-- On a sound store a call leaves a sound store that says the rules' next box; a fresh store says the fresh box. Assumes nothing.
 use Prim.Native.Nat.{ℕ}
 use mathlib.Core.Path.{_≡_, refl, sym, ap, _∙_}
-use mathlib.Core.Bool.{true}
+use mathlib.Core.Bool.{Bool, true, false, cond}
 use mathlib.Core.List.{List}
 use mathlib.Core.Option.{Option, none, some}
 use native.Mathlib.Omega.{arith}
+use lib.ListN.{length}
+use lib.Dec.{eqb}
 use Rattle.octets.specs.Tests.{first}
 use Rattle.frame.specs.declared.Refusal.{Refusal}
-use Rattle.rules.specs.Box.{Box, deskAt, Event, frame, sighting, tick, Answer as RuleAnswer, refused, reply, seen, ok, AtDesk, request, served, sighted, placed, unlessRefused, frameRefusals, sightingRefusals, step}
+use Rattle.frame.specs.declared.Refusal.the-variants.{Unsound}
+use Rattle.rules.specs.Box.{Box, freshBox, deskAt, Event, frame, sighting, tick, Answer as RuleAnswer, refused, reply, seen, ok, AtDesk, request, served, sighted, placed, unlessRefused, frameRefusals, sightingRefusals, step}
+use Rattle.store.specs.Layout.{storeSize}
 use Rattle.store.specs.View.{view}
 use Rattle.store.specs.Sound.{sound}
+use Rattle.fresh.specs.Fresh.{freshStore}
+use Rattle.views.proofs.FreshBox.{fresh-sound, fresh-view}
 use Rattle.depot.specs.declared.Answer.{Answer}
-use Rattle.depot.specs.Called.{stepOn, Ended, Called}
+use Rattle.depot.specs.declared.Answer.the-variants.{Refused, Done}
+use Rattle.depot.specs.Called.{stepOn, Ended, Called, Made}
 
 -- ---- a refused event changes nothing, in the rules
 
@@ -51,3 +58,15 @@ module _ (s out : List ℕ) (a : Answer) (s′ out′ : List ℕ) (q : sound s �
 
   pub left-sound : (e : Event) → Called e s out a s′ out′ → Left (step (view s) e .box) s′
   left-sound e c = by-answer (step (view s) e .answer) (step (view s) e .box) (refused-keeps (view s) e) (ended-sound e c)
+
+-- ---- a fresh store
+
+fresh-is : (buffer s : List ℕ) → Made buffer Done s → s ≡ freshStore
+fresh-is buffer s m = go (eqb (length buffer) storeSize) (m .answer-is) (m .store-is)
+  where
+    go : (b : Bool) → Done ≡ cond b Done (Refused Unsound) → s ≡ cond b freshStore buffer → s ≡ freshStore
+    go true a e = e
+    go false a e = let z : _≡_ {A = ℕ} 0 1 = cc in absurd (omega arith)
+
+pub fresh-left : (buffer s : List ℕ) → Made buffer Done s → Left freshBox s
+fresh-left buffer s m = let e = fresh-is buffer s m in record { still = ap sound e ∙ fresh-sound; says = ap view e ∙ fresh-view }
