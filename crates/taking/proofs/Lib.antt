@@ -1,3 +1,4 @@
 pub mod Turns
 pub mod Listens
 pub mod Whole
+pub mod Bounds

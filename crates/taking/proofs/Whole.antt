@@ -109,15 +109,3 @@ prints-the-listing input printed h =
     h .printed-is
     ∙ finishes (heard (h .turns)) (sent (h .turns)) (h .last) all (h .out) (h .count) (h .store′) (h .reply′) (h .out′) (h .finished)
     ∙ ap listing (sym (h .input-is))
-
--- ---- a call takes no more than it is lent, and of a part that has octets at least one: so a part is taken in so many calls at most
-
-took-most : (part : List ℕ) (a : State) (n : ℕ) (b : State) → Took part a n b → n ≤ length part
-unfolding Took roomy
-took-most [] a n b q = omega (arith, q .0)
-took-most (c ∷ part) a n b q = go (leb (a .written + longestLine) (length (a .out))) (λ m k. took-most part m k b) q
-  where
-    go : (t : Bool) → ((m : State) (k : ℕ) → Took part m k b → k ≤ length part)
-        → cond t ((m : State) × (k : ℕ) × (n ≡ suc k) × Takes c a m × Took part m k b) ((n ≡ 0) × (b ≡ a)) → n ≤ length (c ∷ part)
-    go true most (m, k, is, one, rest) = omega (arith, most m k rest)
-    go false most (is, same) = omega arith
