@@ -1,13 +1,13 @@
 -- On a sound store a line is answered as the rules say: what is printed, and the box after it. Assumes nothing.
-use Prim.Native.Nat.{ℕ, _+_, _≤_}
-use mathlib.Core.Path.{_≡_, refl, sym, ap, subst, _∙_}
+use Prim.Native.Nat.{ℕ, _≤_}
+use mathlib.Core.Path.{_≡_, refl, ap, subst, _∙_}
 use mathlib.Core.Bool.{true}
 use mathlib.Core.List.{List, []}
 use mathlib.Core.Option.{Option, none, some}
 use native.Mathlib.Omega.{arith}
 use lib.ListN.{length, take}
 use Rattle.octets.specs.Tests.{first}
-use Rattle.octets.specs.Parts.{part, put}
+use Rattle.octets.specs.Parts.{part}
 use Rattle.octets.proofs.Puts.{put-length, part-put-same}
 use Rattle.frame.specs.declared.Refusal.{Refusal}
 use Rattle.frame.specs.Shape.{replyRoom}
@@ -15,7 +15,6 @@ use Rattle.rules.specs.Box.{Box, Event, Answer as RuleAnswer, refused, reply, s
 use Rattle.store.specs.View.{view}
 use Rattle.store.specs.Sound.{sound}
 use Rattle.depot.specs.declared.Answer.{Answer}
-use Rattle.depot.specs.declared.Answer.the-variants.{Reply}
 use Rattle.depot.specs.Called.{Ended, Called}
 use Rattle.depot.proofs.Short.{Short, frame-short}
 use Rattle.depot.proofs.Steps.{Left, ended-sound, left-sound}

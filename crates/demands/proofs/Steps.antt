@@ -1,24 +1,13 @@
 -- One call after the other: on a sound store each gives the rules' answer and leaves a sound store that says the rules' next box.
 -- Assumes nothing.
 use Prim.Native.Nat.{ℕ}
-use mathlib.Core.Path.{_≡_, refl, sym, ap, _∙_, subst}
-use mathlib.Core.Bool.{Bool, true, false, cond}
+use mathlib.Core.Path.{_≡_, ap, _∙_, subst}
+use mathlib.Core.Bool.{true}
 use mathlib.Core.List.{List, [], _∷_}
-use mathlib.Core.Option.{Option, none, some}
-use native.Mathlib.Omega.{arith}
-use lib.ListN.{length}
-use lib.Dec.{eqb}
-use Rattle.octets.specs.Tests.{first}
-use Rattle.frame.specs.declared.Refusal.{Refusal}
-use Rattle.frame.specs.declared.Refusal.the-variants.{Unsound}
-use Rattle.rules.specs.Box.{Box, freshBox, deskAt, Event, frame, sighting, tick, Answer as RuleAnswer, refused, reply, seen, ok, AtDesk, Step, request, served, sighted, placed, unlessRefused, frameRefusals, sightingRefusals, step, run, after}
-use Rattle.store.specs.Layout.{storeSize}
-use Rattle.fresh.specs.Fresh.{freshStore}
+use Rattle.rules.specs.Box.{Box, freshBox, Answer as RuleAnswer, refused, reply, seen, ok, Step, step, run, after}
 use Rattle.store.specs.View.{view}
 use Rattle.store.specs.Sound.{sound}
-use Rattle.views.proofs.FreshBox.{fresh-sound, fresh-view}
-use Rattle.depot.specs.declared.Answer.the-variants.{Refused, Done}
-use Rattle.depot.specs.Called.{Ended, Called, Made}
+use Rattle.depot.specs.Called.{Ended, Called}
 use Rattle.depot.proofs.Steps.{Left, ended-sound, left-sound, fresh-left}
 use Rattle.demands.specs.History.{eventOf, lentTo, Deed, eventsOf, Ran, History}
 use Rattle.demands.specs.Answers.{Gave, GaveAll}

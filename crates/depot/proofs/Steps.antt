@@ -18,7 +18,7 @@ use Rattle.fresh.specs.Fresh.{freshStore}
 use Rattle.views.proofs.FreshBox.{fresh-sound, fresh-view}
 use Rattle.depot.specs.declared.Answer.{Answer}
 use Rattle.depot.specs.declared.Answer.the-variants.{Refused, Done}
-use Rattle.depot.specs.Called.{stepOn, Ended, Called, Made}
+use Rattle.depot.specs.Called.{stepOn, Next, Ended, Called, Made}
 
 -- ---- a refused event changes nothing, in the rules
 
@@ -44,12 +44,16 @@ pub record Left (box : Box) (s′ : List ℕ) : Type 0 where
   pub still : sound s′ ≡ true
   pub says : view s′ ≡ box
 
+-- of a call that is not refused
+pub next-left : (box : Box) (s′ : List ℕ) → Next box s′ → Left box s′
+next-left box s′ p = record { still = p .0; says = p .1 }
+
 module _ (s out : List ℕ) (a : Answer) (s′ out′ : List ℕ) (q : sound s ≡ true) where
   by-answer : (t : RuleAnswer) (box : Box) → ((r : Refusal) → t ≡ refused r → box ≡ view s) → Ended t box s out a s′ out′ → Left box s′
   by-answer (refused r) box keep e = record { still = ap sound (e .1 .0) ∙ q; says = ap view (e .1 .0) ∙ sym (keep r refl) }
-  by-answer (reply t) box keep e = record { still = e .2 .0; says = e .2 .1 }
-  by-answer (seen w) box keep e = record { still = e .2 .0; says = e .2 .1 }
-  by-answer ok box keep e = record { still = e .2 .0; says = e .2 .1 }
+  by-answer (reply t) box keep e = next-left box s′ (e .2)
+  by-answer (seen w) box keep e = next-left box s′ (e .2)
+  by-answer ok box keep e = next-left box s′ (e .2)
 
   -- what the call made of the rules' step
   pub ended-sound : (e : Event) → Called e s out a s′ out′ → Ended (step (view s) e .answer) (step (view s) e .box) s out a s′ out′

@@ -2,7 +2,7 @@
 use Prim.Native.Nat.{ℕ, suc, _+_, _-_, _≤_, _<_}
 use mathlib.Core.Path.{_≡_, refl, sym, ap, subst, _∙_}
 use mathlib.Core.Bool.{Bool, true, false, cond}
-use mathlib.Core.List.{List, [], _∷_, _++_}
+use mathlib.Core.List.{List, _∷_, _++_}
 use native.Mathlib.Nat.{zero-add, add-zero}
 use native.Mathlib.Numerals.{add-one}
 use native.Mathlib.Omega.{arith}
@@ -38,16 +38,16 @@ module _ (line : Begun) (w : ℕ) (held s reply out : List ℕ) (n : ℕ) (s′ 
   answer-short l q = let t = answered-text (readOff line held) s reply l n s′ reply′ rest (q .read) in omega (arith, t .prints .count-is, t .short)
 
   -- the line was answered in the rest of the output, which was lent
-  pub line-ended : (next : Begun) → next ≡ noneFed → w ≤ length out → ReadOff line held s reply (take (length out - w) (drop w out)) n s′ reply′ rest
-      → LineEnds (lent line w held s reply out) (lent next (w + n) held s′ reply′ (take w out ++ (rest ++ drop (length out - w) (drop w out))))
-  line-ended next e h q =
+  pub line-ended : (next : Begun) (w′ : ℕ) → next ≡ noneFed → w′ ≡ w + n → w ≤ length out → ReadOff line held s reply (take (length out - w) (drop w out)) n s′ reply′ rest
+      → LineEnds (lent line w held s reply out) (lent next w′ held s′ reply′ (take w out ++ (rest ++ drop (length out - w) (drop w out))))
+  line-ended next w′ e f h q =
       let t = answered-text (readOff line held) s reply (take (length out - w) (drop w out)) n s′ reply′ rest (q .read) in
       record {
         count = n;
         rest = rest;
         answered = subst (λ (l : List ℕ). ReadOff line held s reply l n s′ reply′ rest) (rest-of w out) q;
         out-is = put-mid w (length out - w) rest out (ap length (t .prints .output-is) ∙ put-length 0 (t .text) (take (length out - w) (drop w out))) (omega arith);
-        written-is = refl;
+        written-is = f;
         line-is = e;
         held-is = refl;
       }

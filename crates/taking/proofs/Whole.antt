@@ -1,13 +1,12 @@
 -- In any grouping of an input into parts, all that is printed is what the input prints. Assumes nothing.
-use Prim.Native.Nat.{ℕ, suc, _+_, _≤_, _<_}
-use mathlib.Core.Path.{_≡_, refl, sym, ap, subst, _∙_}
-use mathlib.Core.Bool.{Bool, true, false, cond}
+use Prim.Native.Nat.{ℕ}
+use mathlib.Core.Path.{_≡_, sym, ap, _∙_}
+use mathlib.Core.Bool.{true}
 use mathlib.Core.List.{List, [], _∷_, _++_, append-assoc, append-nil}
 use native.Mathlib.Omega.{arith}
-use borrow.Author.Tests.{eq-eqb, ne-eqb, leb-true, le-leb}
-use lib.Dec.{eqb, leb}
+use borrow.Author.Tests.{eq-eqb, ne-eqb}
 use lib.ListN.{length, take}
-use Rattle.octets.specs.Parts.{part, put}
+use Rattle.octets.specs.Parts.{part}
 use Rattle.octets.proofs.Puts.{part-put-same}
 use Rattle.frame.specs.Shape.{replyRoom}
 use Rattle.rules.specs.Box.{Box}
@@ -16,12 +15,12 @@ use Rattle.store.specs.Sound.{sound}
 use Rattle.depot.specs.declared.Answer.the-variants.{Done}
 use Rattle.depot.specs.Called.{Made}
 use Rattle.depot.proofs.Steps.{fresh-left}
-use Rattle.text.specs.Listing.{longestLine, lineOf}
+use Rattle.text.specs.Listing.{lineOf}
 use Rattle.text.specs.Whole.{lastLine, linesFrom, said, printedFrom, listing}
 use Rattle.answering.proofs.Meaning.{Means, answered-means}
 use Rattle.feeding.specs.declared.Begun.{Begun}
 use Rattle.feeding.specs.Feeding.{Fed, Starts, heldRoom, ReadOff}
-use Rattle.taking.specs.Taking.{State, lent, Takes, roomy, Took, Ends, Sized, TookPart, Finished}
+use Rattle.taking.specs.Taking.{State, Ends, Sized, Finished}
 use Rattle.taking.specs.Listed.{waits, Listening, anew, Turn, Ran, heard, sent, Listed}
 use Rattle.taking.proofs.Turns.{answer-short}
 use Rattle.taking.proofs.Listens.{part-listens}

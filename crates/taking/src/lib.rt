@@ -68,7 +68,10 @@ fn take_all(
         taken: 0,
         written: 0,
     };
-    while p.taken < part.len() && LONGEST <= out.len() - p.written {
+    while p.taken < part.len() {
+        if out.len() - p.written < LONGEST {
+            return p;
+        }
         p = take(p, part, held, store, reply, out);
     }
     p

@@ -1,8 +1,7 @@
 -- `listing::list` is safe and ends: the reads fall, and the buffer that is read into keeps its length. Assumes nothing.
 use mathlib.Core.Path.{_≡_}
-use native.Mathlib.Omega.{arith}
 use borrow.Author.Needs.{needs}
-use lib.ListN.{length, length-take}
+use lib.ListN.{length}
 use Rattle.taking.proofs.Bounds.{finish-bounds}
 use Rattle.listing.proofs.list.Statement.{statement}
 use Rattle.listing.proofs.list.Tie as tie

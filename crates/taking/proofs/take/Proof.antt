@@ -10,7 +10,7 @@ returns : tie.Need-returns
 returns c =
     let f = c .before .before in (
       refl,
-      takes-other _ _ _ (f .before .before .before .if1 .taken)
+      takes-other _ _ _ (λ e. f .before .before .before .if1 .taken (omega (arith, e)))
           (record { feeds = f .feed .ensures; written-is = refl; store-is = refl; reply-is = refl; out-is = refl }),
     )
 
@@ -25,7 +25,7 @@ returns-2 c =
     let a = c .before .before .before .before .before .before .before in
     let one = a .before .before .before .before .before in
     let z = one .before .before .before .before .before .before .before in
-    (refl, takes-lf _ _ _ (one .if1 .left) (line-ended _ _ _ _ _ (z .args .out .now) _ _ _ _ _ (c .start .ensures .state-is) (omega (arith, z .pre .1)) (a .answer .ensures)))
+    (refl, takes-lf _ _ _ (omega (arith, one .if1 .left)) (line-ended _ (z .args .p .written) _ _ _ (z .args .out .now) (a .answer .result) _ _ _ _ _ (c .start .ensures .state-is) (search needs) (omega (arith, z .pre .1)) (a .answer .ensures)))
 
 pub take-spec : {M : Type 1} → statement M
 take-spec =
