@@ -108,3 +108,7 @@ prints-the-listing input printed h =
     h .printed-is
     ∙ finishes (heard (h .turns)) (sent (h .turns)) (h .last) all (h .out) (h .count) (h .store′) (h .reply′) (h .out′) (h .finished)
     ∙ ap listing (sym (h .input-is))
+
+-- so two groupings of one input print the same
+pub any-grouping : (input printed printed″ : List ℕ) → Listed input printed → Listed input printed″ → printed ≡ printed″
+any-grouping input printed printed″ p q = prints-the-listing input printed p ∙ sym (prints-the-listing input printed″ q)

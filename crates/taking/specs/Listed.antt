@@ -56,6 +56,7 @@ unfoldable pub sent : List Turn → List ℕ
 sent [] = []
 sent (t ∷ ts) = waits (t .after) ++ sent ts
 
+-- a whole run: what it took, and what it printed
 pub record Listed (input printed : List ℕ) : Type 0 where
   pub buffer : List ℕ
   pub first : State
@@ -64,6 +65,7 @@ pub record Listed (input printed : List ℕ) : Type 0 where
   pub turns : List Turn
   pub last : State
   pub ran : Ran first turns last
+  -- the output of the end, as it was lent, and what the end left
   pub out : List ℕ
   pub count : ℕ
   pub store′ : List ℕ

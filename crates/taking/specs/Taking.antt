@@ -69,7 +69,7 @@ Ends line held s reply out n s′ reply′ out′ =
 abbrev pub outRoom : ℕ
 outRoom = 65536
 
--- as the arrays' types say
+-- as the arrays' types say, so that a call has no test of room and no refusal of its own
 pub record Sized (held reply out : List ℕ) : Type 0 where
   pub held-size : length held ≡ heldRoom
   pub reply-size : length reply ≡ replyRoom
