@@ -17,40 +17,39 @@ use Rattle.text.specs.Whole.{lf}
 use Rattle.text.proofs.Values.{rest-of}
 use Rattle.answering.proofs.Room.{answered-text}
 use Rattle.feeding.specs.declared.Begun.{Begun}
-use Rattle.feeding.specs.Feeding.{noneFed, readOff, ReadOff}
+use Rattle.feeding.specs.Feeding.{noneFed, Feeds, readOff, ReadOff}
 use Rattle.taking.specs.Taking.{State, lent, LineEnds, LineGoesOn, Takes, roomy, Took, Ends}
 
--- ---- an octet
+-- ---- an octet, as the code takes it
 
-module _ (c : ℕ) (a b : State) where
-  pub takes-lf : c ≡ lf → LineEnds a b → Takes c a b
+module _ (line : Begun) (w : ℕ) (held s reply out : List ℕ) where
+  pub goes-on : (c : ℕ) (line′ : Begun) (held′ : List ℕ) → (c ≡ lf → ⊥) → Feeds c line held line′ held′ → Takes c (lent line w held s reply out) (lent line′ w held′ s reply out)
   unfolding Takes
-  takes-lf e q = rw (eq-eqb c lf e) q
+  goes-on c line′ held′ e f = rw (ne-eqb c lf e) (record { feeds = f; written-is = refl; store-is = refl; reply-is = refl; out-is = refl })
 
-  pub takes-other : (c ≡ lf → ⊥) → LineGoesOn c a b → Takes c a b
-  unfolding Takes
-  takes-other e q = rw (ne-eqb c lf e) q
+  module _ (n : ℕ) (s′ reply′ rest : List ℕ) where
+    pub answer-short : (l : List ℕ) → ReadOff line held s reply l n s′ reply′ rest → n ≤ longestLine
+    answer-short l q = let t = answered-text (readOff line held) s reply l n s′ reply′ rest (q .read) in omega (arith, t .prints .count-is, t .short)
 
--- ---- a line that ends
+    -- the line was answered in the rest of the output, which was lent
+    ended : (next : Begun) (w′ : ℕ) → next ≡ noneFed → w′ ≡ w + n → w ≤ length out → ReadOff line held s reply (take (length out - w) (drop w out)) n s′ reply′ rest
+        → LineEnds (lent line w held s reply out) (lent next w′ held s′ reply′ (take w out ++ (rest ++ drop (length out - w) (drop w out))))
+    ended next w′ e f h q =
+        let t = answered-text (readOff line held) s reply (take (length out - w) (drop w out)) n s′ reply′ rest (q .read) in
+        record {
+          count = n;
+          rest = rest;
+          answered = subst (λ (l : List ℕ). ReadOff line held s reply l n s′ reply′ rest) (rest-of w out) q;
+          out-is = put-mid w (length out - w) rest out (ap length (t .prints .output-is) ∙ put-length 0 (t .text) (take (length out - w) (drop w out))) (omega arith);
+          written-is = f;
+          line-is = e;
+          held-is = refl;
+        }
 
-module _ (line : Begun) (w : ℕ) (held s reply out : List ℕ) (n : ℕ) (s′ reply′ rest : List ℕ) where
-  pub answer-short : (l : List ℕ) → ReadOff line held s reply l n s′ reply′ rest → n ≤ longestLine
-  answer-short l q = let t = answered-text (readOff line held) s reply l n s′ reply′ rest (q .read) in omega (arith, t .prints .count-is, t .short)
-
-  -- the line was answered in the rest of the output, which was lent
-  pub line-ended : (next : Begun) (w′ : ℕ) → next ≡ noneFed → w′ ≡ w + n → w ≤ length out → ReadOff line held s reply (take (length out - w) (drop w out)) n s′ reply′ rest
-      → LineEnds (lent line w held s reply out) (lent next w′ held s′ reply′ (take w out ++ (rest ++ drop (length out - w) (drop w out))))
-  line-ended next w′ e f h q =
-      let t = answered-text (readOff line held) s reply (take (length out - w) (drop w out)) n s′ reply′ rest (q .read) in
-      record {
-        count = n;
-        rest = rest;
-        answered = subst (λ (l : List ℕ). ReadOff line held s reply l n s′ reply′ rest) (rest-of w out) q;
-        out-is = put-mid w (length out - w) rest out (ap length (t .prints .output-is) ∙ put-length 0 (t .text) (take (length out - w) (drop w out))) (omega arith);
-        written-is = f;
-        line-is = e;
-        held-is = refl;
-      }
+    pub ends : (c : ℕ) (next : Begun) (w′ : ℕ) → c ≡ lf → next ≡ noneFed → w′ ≡ w + n → w ≤ length out → ReadOff line held s reply (take (length out - w) (drop w out)) n s′ reply′ rest
+        → Takes c (lent line w held s reply out) (lent next w′ held s′ reply′ (take w out ++ (rest ++ drop (length out - w) (drop w out))))
+    unfolding Takes
+    ends c next w′ z e f h q = rw (eq-eqb c lf z) (ended next w′ e f h q)
 
 -- ---- the octets written lie in the output
 

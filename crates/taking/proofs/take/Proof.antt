@@ -2,17 +2,14 @@
 use mathlib.Core.Path.{refl}
 use native.Mathlib.Omega.{arith}
 use borrow.Author.Needs.{needs}
-use Rattle.taking.proofs.Turns.{takes-lf, takes-other, answer-short, line-ended}
+use Rattle.taking.proofs.Turns.{goes-on, answer-short, ends}
 use Rattle.taking.proofs.take.Statement.{statement}
 use Rattle.taking.proofs.take.Tie as tie
 
 returns : tie.Need-returns
 returns c =
-    let f = c .before .before in (
-      refl,
-      takes-other _ _ _ (λ e. f .before .before .before .if1 .taken (omega (arith, e)))
-          (record { feeds = f .feed .ensures; written-is = refl; store-is = refl; reply-is = refl; out-is = refl }),
-    )
+    let f = c .before .before in
+    (refl, goes-on _ _ _ _ _ _ _ _ _ (λ e. f .before .before .before .if1 .taken (omega (arith, e))) (f .feed .ensures))
 
 add-t30 : tie.Need-add-t30
 add-t30 c =
@@ -24,8 +21,11 @@ returns-2 : tie.Need-returns-2
 returns-2 c =
     let a = c .before .before .before .before .before .before .before in
     let one = a .before .before .before .before .before in
-    let z = one .before .before .before .before .before .before .before in
-    (refl, takes-lf _ _ _ (omega (arith, one .if1 .left)) (line-ended _ (z .args .p .written) _ _ _ (z .args .out .now) (a .answer .result) _ _ _ _ _ (c .start .ensures .state-is) (search needs) (omega (arith, z .pre .1)) (a .answer .ensures)))
+    let z = one .before .before .before .before .before .before .before in (
+      refl,
+      ends _ (z .args .p .written) _ _ _ (z .args .out .now) (a .answer .result) _ _ _ _ _ _ (omega (arith, one .if1 .left)) (c .start .ensures .state-is) (search needs)
+          (omega (arith, z .pre .1)) (a .answer .ensures),
+    )
 
 pub take-spec : {M : Type 1} → statement M
 take-spec =
