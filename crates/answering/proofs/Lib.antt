@@ -1,2 +1,5 @@
 pub mod Long
 pub mod NoHex
+pub mod Room
+pub mod Meaning
+pub mod Once

@@ -3,3 +3,4 @@ pub mod Once
 pub mod Writes
 pub mod Short
 pub mod Alone
+pub mod Steps

@@ -12,7 +12,7 @@ module _ (n m : ℕ) where
   pub called-as-once : (e : Event) (s out s′ s″ out′ out″ : List ℕ) → CalledAs e s out n s′ out′ → CalledAs e s out m s″ out″ → (n ≡ m) × (out′ ≡ out″) × (view s′ ≡ view s″)
   called-as-once e s out s′ s″ out′ out″ p q =
       let same = once e s out (p .answer) (q .answer) s′ s″ out′ out″ (p .called) (q .called) in
-      (p .code ∙ ap codeOf (same .answers) ∙ sym (q .code), same .outputs, same .views)
+      (p .code ∙ ap codeOf (same .answers) ∙ sym (q .code), same .outputs, same .stores .views)
 
   pub made-as-once : (s s′ s″ : List ℕ) → MadeAs s n s′ → MadeAs s m s″ → (n ≡ m) × (s′ ≡ s″)
   made-as-once s s′ s″ p q =

@@ -12,10 +12,10 @@ use Rattle.octets.specs.Tests.{allOf}
 use Rattle.feeding.specs.declared.Begun.{Begun}
 use Rattle.text.specs.Digits.{isHex}
 use Rattle.text.specs.Listing.{odd}
-use Rattle.feeding.specs.Feeding.{Fed, Feeds, fedOne}
+use Rattle.feeding.specs.Feeding.{Fed, noneFed, Feeds, fedOne}
 use Rattle.text.proofs.Values.{all-snoc}
 
-pub fed-none : (held : List ℕ) → Fed [] (record { held = 0; over = false; odd = false; bad = false }) held
+pub fed-none : (held : List ℕ) → Fed [] noneFed held
 unfolding odd allOf
 fed-none held =
     record {

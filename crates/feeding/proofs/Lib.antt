@@ -1,3 +1,2 @@
 pub mod Feeding
 pub mod Whole
-pub mod Rooms

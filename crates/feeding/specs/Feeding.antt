@@ -1,19 +1,15 @@
 -- A line that is read octet by octet in bounded memory: what is held of it, and that this is enough. Assumes nothing.
 use Prim.Native.Nat.{ℕ, _+_, _*_, _≤_, min}
 use mathlib.Core.Path.{_≡_}
-use mathlib.Core.Bool.{Bool, true, cond, not, _||_}
+use mathlib.Core.Bool.{true, false, cond, not, _||_}
 use mathlib.Core.List.{List, [], _∷_, _++_}
-use mathlib.Core.Option.{Option, none, some}
 use lib.ListN.{length, take, set}
 use lib.Dec.{ltb}
-use Rattle.octets.specs.Tests.{allOf, first}
+use Rattle.octets.specs.Tests.{allOf}
 use Rattle.frame.specs.Shape.{replyRoom}
-use Rattle.frame.specs.Refusal.{Refuses}
-use Rattle.rules.specs.declared.Written.{Written}
-use Rattle.rules.specs.declared.Written.the-variants.{Octets, Refused}
 use Rattle.feeding.specs.declared.Begun.{Begun}
 use Rattle.text.specs.Digits.{isHex, octetsOf}
-use Rattle.text.specs.Listing.{Line, frame, notRead, odd, otherLine, lineOf, longestLine}
+use Rattle.text.specs.Listing.{Line, frame, notRead, odd, otherLine, lineOf}
 use Rattle.answering.specs.Answered.{Answered}
 
 -- the first octets of a text are held, as many as there is room for; of all of them is known whether they are more, whether their
@@ -24,6 +20,14 @@ pub record Fed (text : List ℕ) (at : Begun) (held : List ℕ) : Type 0 where
   pub over-is : at .over ≡ ltb (length held) (length text)
   pub odd-is : at .odd ≡ odd text
   pub bad-is : at .bad ≡ not (allOf isHex text)
+
+-- before the first octet of a line
+abbrev pub noneFed : Begun
+noneFed = record { held = 0; over = false; odd = false; bad = false }
+
+pub record Starts (r : Begun) : Type 0 where
+  pub state-is : r ≡ noneFed
+  pub fed : (held : List ℕ) → Fed [] r held
 
 -- the state after one octet more
 unfoldable pub fedOne : ℕ → Begun → ℕ → Begun
@@ -56,14 +60,3 @@ heldRoom = 2 * (replyRoom + 1)
 pub record ReadOff (at : Begun) (held s reply out : List ℕ) (n : ℕ) (s′ reply′ out′ : List ℕ) : Type 0 where
   pub read : Answered (readOff at held) s reply out n s′ reply′ out′
   pub whole : (text : List ℕ) → Fed text at held → heldRoom ≤ length held → Answered (lineOf text) s reply out n s′ reply′ out′
-
-unfoldable pub listRefusals : List ℕ → List (ℕ × Bool)
-listRefusals out = (7, ltb (length out) longestLine) ∷ []
-
--- a refused call leaves store, reply buffer and output octet for octet
-abbrev pub Lists : Option ℕ → Begun → List ℕ → List ℕ → List ℕ → List ℕ → Written → List ℕ → List ℕ → List ℕ → Type 0
-Lists (some n) at held s reply out r s′ reply′ out′ = Refuses Refused n r × (s′ ≡ s) × (reply′ ≡ reply) × (out′ ≡ out)
-Lists none at held s reply out r s′ reply′ out′ = (n : ℕ) × (r ≡ Octets n) × ReadOff at held s reply out n s′ reply′ out′
-
-pub record Listed (at : Begun) (held s reply out : List ℕ) (r : Written) (s′ reply′ out′ : List ℕ) : Type 0 where
-  pub lists : Lists (first (listRefusals out)) at held s reply out r s′ reply′ out′

@@ -2,20 +2,16 @@
 use answering::framed;
 use answering::other;
 use frame::Advanced;
-use frame::Refusal;
 use octets::least;
-use rules::Written;
-use text::LONGEST;
 use text::digits::is_hex;
 use text::print::not_read;
 ghost use mathlib.Core.Path.{_≡_};
 ghost use mathlib.Core.Bool.{not, _||_};
-ghost use mathlib.Core.List.{List, []};
-ghost use Prim.Native.Nat.{ℕ, _≤_};
+ghost use Prim.Native.Nat.{_≤_};
 ghost use lib.ListN.{length};
 ghost use Rattle.text.specs.Digits.{isHex};
 ghost use Rattle.text.specs.Listing.{longestLine};
-ghost use Rattle.feeding.specs.Feeding.{Fed, Feeds, ReadOff, Listed};
+ghost use Rattle.feeding.specs.Feeding.{Starts, Feeds, ReadOff};
 
 // So many octets of a line are enough, however long it is.
 pub const HELD: usize = 2 * (Advanced::LONGEST + 1);
@@ -31,7 +27,7 @@ pub struct Begun {
 
 // Before the first octet of a line.
 pub fn start() -> Begun
-    ensures { λ r. ⌜ ((held : List ℕ) → Fed [] r held) ⌝ }
+    ensures { λ r. ⌜ Starts r ⌝ }
 {
     Begun {
         held: 0,
@@ -75,8 +71,14 @@ pub fn feed(state: Begun, held: &mut [u8], c: u8) -> Begun
     }
 }
 
-// Answers the line that was fed, in an output that has room for any line.
-fn read_off(state: Begun, held: &[u8], store: &mut [u8], reply: &mut [u8], out: &mut [u8]) -> usize
+// Answers the line that was fed: the box is called, and what is to be printed stands at the start of the output.
+pub fn answer(
+    state: Begun,
+    held: &[u8],
+    store: &mut [u8],
+    reply: &mut [u8],
+    out: &mut [u8],
+) -> usize
     requires { ⌜ longestLine ≤ length (now out) ⌝ }
     ensures { λ r. ⌜ ReadOff state (now (held .entry)) (now (store .entry)) (now (reply .entry)) (now (out .entry)) r (now (store .exit)) (now (reply .exit)) (now (out .exit)) ⌝ }
 {
@@ -91,21 +93,4 @@ fn read_off(state: Begun, held: &[u8], store: &mut [u8], reply: &mut [u8], out: 
         return not_read(out);
     }
     framed(&held[..n], store, reply, out)
-}
-
-// Answers the line that was fed: the box is called, and what is to be printed stands at the start of the output. Where that has no
-// room for the longest line the box is not called.
-pub fn answer(
-    state: Begun,
-    held: &[u8],
-    store: &mut [u8],
-    reply: &mut [u8],
-    out: &mut [u8],
-) -> Written
-    ensures { λ r. ⌜ Listed state (now (held .entry)) (now (store .entry)) (now (reply .entry)) (now (out .entry)) r (now (store .exit)) (now (reply .exit)) (now (out .exit)) ⌝ }
-{
-    if out.len() < LONGEST {
-        return Written::Refused(Refusal::NoRoom);
-    }
-    Written::Octets(read_off(state, held, store, reply, out))
 }

@@ -1,0 +1,5 @@
+pub mod Turns
+pub mod Listens
+pub mod Whole
+pub mod Bounds
+pub mod Once

@@ -1,0 +1,29 @@
+-- The paper's example of a listing, computed. Assumes nothing.
+use Prim.Native.Nat.{ℕ}
+use mathlib.Core.Path.{_≡_, refl}
+use mathlib.Core.List.{List, [], _∷_, _++_}
+use Rattle.rules.proofs.Computed.{computed}
+use Rattle.text.specs.Digits.{between, isHex, valueOf, octetsOf, lastDigits, placesOf, decimalOf}
+use Rattle.text.specs.Listing.{odd, isTick, isSighting, sightingOf, otherLine, lineOf, numberLine, refusedLine, hexLine, seenLine, okLine, notReadLine}
+use Rattle.text.specs.Whole.{lf, lastLine, linesFrom, answerLine, answerTo, said, printedFrom, listing}
+
+-- an empty line, `0500640000`, `050064AC25`, `t`, and how it ends
+abbrev pub input : List ℕ → List ℕ
+input end =
+    (lf ∷ [])
+    ++ (0x30 ∷ 0x35 ∷ 0x30 ∷ 0x30 ∷ 0x36 ∷ 0x34 ∷ 0x30 ∷ 0x30 ∷ 0x30 ∷ 0x30 ∷ lf ∷ [])
+    ++ (0x30 ∷ 0x35 ∷ 0x30 ∷ 0x30 ∷ 0x36 ∷ 0x34 ∷ 0x41 ∷ 0x43 ∷ 0x32 ∷ 0x35 ∷ lf ∷ [])
+    ++ (0x74 ∷ end)
+
+-- `refused 3`, `refused 4`, `060064008E4A`, `ok`
+abbrev pub output : List ℕ
+output =
+    (0x72 ∷ 0x65 ∷ 0x66 ∷ 0x75 ∷ 0x73 ∷ 0x65 ∷ 0x64 ∷ 0x20 ∷ 0x33 ∷ lf ∷ [])
+    ++ (0x72 ∷ 0x65 ∷ 0x66 ∷ 0x75 ∷ 0x73 ∷ 0x65 ∷ 0x64 ∷ 0x20 ∷ 0x34 ∷ lf ∷ [])
+    ++ (0x30 ∷ 0x36 ∷ 0x30 ∷ 0x30 ∷ 0x36 ∷ 0x34 ∷ 0x30 ∷ 0x30 ∷ 0x38 ∷ 0x45 ∷ 0x34 ∷ 0x41 ∷ lf ∷ [])
+    ++ (0x6F ∷ 0x6B ∷ lf ∷ [])
+
+-- also where the last line has no LF
+pub papers-example : (listing (input (lf ∷ [])) ≡ output) × (listing (input []) ≡ output)
+unfolding computed between isHex valueOf octetsOf lastDigits placesOf decimalOf odd isTick isSighting sightingOf otherLine lineOf numberLine refusedLine hexLine seenLine okLine notReadLine lastLine linesFrom answerLine answerTo said printedFrom listing
+papers-example = (refl, refl)
