@@ -102,11 +102,15 @@ fn record_at(sent: &[u8], i: usize) {
     }
 }
 
-fn recorded(sent: &[u8]) {
-    let n = match typed::count_in(sent) {
+fn count(sent: &[u8]) -> usize {
+    match typed::count_in(sent) {
         CountTold::Records(n) => n,
         CountTold::Refused(_) => 0,
-    };
+    }
+}
+
+fn recorded(sent: &[u8]) {
+    let n = count(sent);
     let mut i: usize = 0;
     while i < n {
         record_at(sent, i);
