@@ -12,7 +12,8 @@ use Rattle.octets.proofs.Tests.{both, and-left, and-right, and-both, or-left, o
 use Rattle.octets.specs.Each.{All}
 use Rattle.octets.proofs.Each.{all-facts, all-test, all-append, all-drop}
 use Rattle.locks.specs.declared.Lock.{Lock}
-use Rattle.locks.specs.Locks.{aged, sweptOf, foundFrom, locked, mostLocks, madeRoom, added, lockLegal, distinct, locksLegal}
+use Rattle.locks.specs.declared.Aged.the-variants.{Stays, Goes}
+use Rattle.locks.specs.Locks.{less, agedOf, keptBefore, sweptOf, foundFrom, locked, mostLocks, madeRoom, added, lockLegal, distinct, locksLegal}
 use Rattle.locks.proofs.Lookups.{locked-cons}
 use Rattle.locks.proofs.Sweeps.{swept-length}
 
@@ -103,30 +104,30 @@ module _ (uid : ℕ) (l : Lock) (ls : List Lock) where
 
 -- who was not locked is not, after a tick
 pub swept-unlocked : (uid : ℕ) (ls : List Lock) → locked uid ls ≡ false → locked uid (sweptOf ls) ≡ false
-unfolding sweptOf
+unfolding sweptOf agedOf
 swept-unlocked uid [] e = e
 swept-unlocked uid (l ∷ ls) e = go (ltb 1 (l .left)) (unlocked-head uid l ls e) (swept-unlocked uid ls (unlocked-tail uid l ls e))
   where
-    go : (b : Bool) → eqb (l .uid) uid ≡ false → locked uid (sweptOf ls) ≡ false → locked uid (cond b (aged l ∷ sweptOf ls) (sweptOf ls)) ≡ false
-    go true p q = unlocked-cons uid (aged l) (sweptOf ls) p q
+    go : (b : Bool) → eqb (l .uid) uid ≡ false → locked uid (sweptOf ls) ≡ false → locked uid (keptBefore (cond b (Stays (less l)) Goes) (sweptOf ls)) ≡ false
+    go true p q = unlocked-cons uid (less l) (sweptOf ls) p q
     go false p q = q
 
 -- a rule of each lock that an older lock keeps
-swept-all : (P : Lock → Type 0) → ((l : Lock) → 1 < l .left → P l → P (aged l)) → (ls : List Lock) → All P ls → All P (sweptOf ls)
-unfolding sweptOf
+swept-all : (P : Lock → Type 0) → ((l : Lock) → 1 < l .left → P l → P (less l)) → (ls : List Lock) → All P ls → All P (sweptOf ls)
+unfolding sweptOf agedOf
 swept-all P f [] p = tt
 swept-all P f (l ∷ ls) p = go (ltb 1 (l .left)) refl (swept-all P f ls (p .1))
   where
-    go : (b : Bool) → ltb 1 (l .left) ≡ b → All P (sweptOf ls) → All P (cond b (aged l ∷ sweptOf ls) (sweptOf ls))
+    go : (b : Bool) → ltb 1 (l .left) ≡ b → All P (sweptOf ls) → All P (keptBefore (cond b (Stays (less l)) Goes) (sweptOf ls))
     go true e q = (f l (ltb-true 1 (l .left) e) (p .0), q)
     go false e q = q
 
 swept-distinct : (ls : List Lock) → Distinct ls → Distinct (sweptOf ls)
-unfolding sweptOf
+unfolding sweptOf agedOf
 swept-distinct [] p = tt
 swept-distinct (l ∷ ls) p = go (ltb 1 (l .left)) (swept-distinct ls (p .1))
   where
-    go : (b : Bool) → Distinct (sweptOf ls) → Distinct (cond b (aged l ∷ sweptOf ls) (sweptOf ls))
+    go : (b : Bool) → Distinct (sweptOf ls) → Distinct (keptBefore (cond b (Stays (less l)) Goes) (sweptOf ls))
     go true q = (swept-unlocked (l .uid) ls (p .0), q)
     go false q = q
 

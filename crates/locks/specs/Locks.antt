@@ -6,19 +6,30 @@ use lib.Dec.{ltb, leb, eqb}
 use lib.ListN.{length, take, drop}
 use Rattle.octets.specs.Tests.{allOf}
 use Rattle.locks.specs.declared.Lock.{Lock}
+use Rattle.locks.specs.declared.Aged.{Aged}
+use Rattle.locks.specs.declared.Aged.the-variants.{Stays, Goes}
 use Rattle.locks.specs.declared.Found.{Found}
 use Rattle.locks.specs.declared.Found.the-variants.{At, Nothing}
 
 -- ---- a tick
 
 -- a lock with one tick less
-abbrev pub aged : Lock → Lock
-aged l = record { uid = l .uid; left = l .left - 1 }
+abbrev pub less : Lock → Lock
+less l = record { uid = l .uid; left = l .left - 1 }
+
+-- a lock loses one tick, and goes where it reaches zero
+unfoldable pub agedOf : Lock → Aged
+agedOf l = cond (ltb 1 (l .left)) (Stays (less l)) Goes
+
+-- before the others stands one that stays
+abbrev pub keptBefore : Aged → List Lock → List Lock
+keptBefore (Stays l) ls = l ∷ ls
+keptBefore Goes ls = ls
 
 -- each lock loses one tick; those that reach zero go, and the others keep their order
 unfoldable pub sweptOf : List Lock → List Lock
 sweptOf [] = []
-sweptOf (l ∷ ls) = cond (ltb 1 (l .left)) (aged l ∷ sweptOf ls) (sweptOf ls)
+sweptOf (l ∷ ls) = keptBefore (agedOf l) (sweptOf ls)
 
 -- the first n are swept, and what is left of them stands in front; what stood behind that stays as it was
 abbrev pub sweepOf : ℕ → List Lock → List Lock
@@ -26,10 +37,14 @@ sweepOf n ls = sweptOf (take n ls) ++ drop (length (sweptOf (take n ls))) ls
 
 -- ---- a search
 
+-- it is the lock of that UID
+abbrev pub isOf : ℕ → Lock → Bool
+isOf uid l = eqb (l .uid) uid
+
 -- the first lock with that UID: its place, counted from k, and the ticks that it has left
 unfoldable pub foundFrom : ℕ → ℕ → List Lock → Found
 foundFrom k uid [] = Nothing
-foundFrom k uid (l ∷ ls) = cond (eqb (l .uid) uid) (At k (l .left)) (foundFrom (k + 1) uid ls)
+foundFrom k uid (l ∷ ls) = cond (isOf uid l) (At k (l .left)) (foundFrom (k + 1) uid ls)
 
 abbrev pub foundIn : ℕ → List Lock → Found
 foundIn uid ls = foundFrom 0 uid ls

@@ -1,5 +1,9 @@
 // The maker: a request becomes a frame at the start of a lent output.
+use frame::Advanced;
+use frame::Frame;
+use frame::Kind;
 use frame::Refusal;
+use frame::Standard;
 use frame::Way;
 use requests::Ask;
 use requests::Request;
@@ -17,6 +21,7 @@ ghost use lib.ListN.{length};
 ghost use Rattle.octets.specs.Parts.{put};
 ghost use Rattle.octets.specs.Numbers.{octets};
 ghost use Rattle.frame.specs.declared.Way.{Way};
+ghost use Rattle.frame.specs.Shape.{frameWith};
 ghost use Rattle.seal.specs.Buffer.{fitsIn};
 ghost use Rattle.table.specs.Entries.{desks};
 ghost use Rattle.rules.specs.Config.{blockSize};
@@ -82,18 +87,31 @@ fn put_data(out: &mut [u8], ask: Ask, bytes: [u8; BLOCK])
     }
 }
 
+// The frame of the request, with len octets of data.
+fn frame_of(q: Request, control: u8, len: usize) -> Frame
+    requires { ⌜ q .desk < desks ⌝ }
+    ensures { λ r. ⌜ r ≡ frameWith Way.Request (q .kind) (q .desk) control len ⌝ }
+{
+    let kind = q.kind;
+    let address = q.desk as u8;
+    match kind {
+        Kind::Standard => Standard::frame(Way::Request, address, control, len),
+        Kind::Advanced => Advanced::frame(Way::Request, address, control, len),
+    }
+}
+
 // Makes the frame where it is known to fit.
 fn put_frame(q: Request, out: &mut [u8], control: u8, len: usize) -> Written
     requires { ⌜ (q .desk < desks) × (inRange q ≡ true) × (len ≡ length (dataFor q)) × (control ≡ controlOf (q .ask)) × (fitsIn Way.Request (q .kind) len (length (now out)) ≡ true) ⌝ }
     ensures { λ r. ⌜ Requested q (now (out .entry)) r (now (out .exit)) ⌝ }
 {
-    let kind = q.kind;
+    let f = frame_of(q, control, len);
     let ask = q.ask;
     let bytes = q.bytes;
-    let way = Way::Request;
-    let at = way.data_at(kind);
+    let at = f.start;
     put_data(&mut out[at..], ask, bytes);
-    match seal::seal_request(out, kind, q.desk as u8, control, len) {
+    let kind = f.kind;
+    match seal::seal_request(out, kind, f.address, f.control, f.len) {
         Sealed::Octets(n) => Written::Octets(n),
         Sealed::Not => Written::Refused(Refusal::NoRoom),
     }

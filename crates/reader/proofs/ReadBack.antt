@@ -19,10 +19,10 @@ use Rattle.frame.specs.declared.Kind.{Kind}
 use Rattle.frame.specs.declared.Kind.the-variants.{Standard, Advanced}
 use Rattle.frame.specs.declared.Way.the-variants.{Reply}
 use Rattle.frame.specs.declared.Frame.{Frame}
-use Rattle.frame.specs.Shape.{shapeOf, overhead}
+use Rattle.frame.specs.Shape.{shapeOf, overhead, frameWith}
 use Rattle.frame.specs.Judged.{faults, partsOf, dataOf}
 use Rattle.frame.specs.Sealed.{frameOf}
-use Rattle.frame.proofs.ReadBack.{madeOf, reply-back, reply-parts, reply-data, status-back}
+use Rattle.frame.proofs.ReadBack.{reply-back, reply-parts, reply-data, status-back}
 use Rattle.frame.proofs.Verdict.{sound-first}
 use Rattle.table.specs.Entries.{recordWidth, desks}
 use Rattle.rules.specs.declared.control.TableCommand.the-variants as table
@@ -99,7 +99,7 @@ module _ (q : Request) (status : ℕ) (sent : List ℕ) where
   abbrev replied : List ℕ
   replied = frameOf (q .kind) (q .desk) (controlOf (q .ask)) (status ∷ sent)
 
-  replied-parts : partsOf Reply replied ≡ madeOf Reply (q .kind) (q .desk) (controlOf (q .ask)) (length sent)
+  replied-parts : partsOf Reply replied ≡ frameWith Reply (q .kind) (q .desk) (controlOf (q .ask)) (length sent)
   replied-parts = reply-parts (q .kind) (q .desk) (controlOf (q .ask)) status sent
 
   replied-told : toldOf (partsOf Reply replied) replied ≡ record { status = status; start = shapeOf (q .kind) .lead + 3; len = length sent }

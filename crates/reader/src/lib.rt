@@ -1,15 +1,19 @@
 // The reader: the octets of a reply, judged by the request that they should answer.
+use frame::Advanced;
 use frame::Frame;
 use frame::Judged;
 use frame::Kind;
 use frame::Refusal;
+use frame::Standard;
 use frame::Way;
 use possible::is_possible;
 use requests::Request;
 use requests::control_of;
 ghost use mathlib.Core.Path.{_≡_};
 ghost use Rattle.frame.specs.declared.Way.{Way};
+ghost use Rattle.frame.specs.Shape.{frameWith};
 ghost use Rattle.frame.specs.Judged.{Verdict, judged};
+ghost use Rattle.requests.specs.Request.{controlOf};
 ghost use Rattle.reader.specs.Reader.{sameKind, toldOf, countRight, answersTo, readAs, findingOf};
 
 // A reply's status, and where its data lie.
@@ -68,21 +72,34 @@ fn told_of(f: Frame, reply: &[u8]) -> Told
     }
 }
 
+// The frame that answers the request from that address, with len octets of data.
+fn reply_to(q: Request, address: u8, len: usize) -> Frame
+    ensures { λ r. ⌜ r ≡ frameWith Way.Reply (q .kind) address (controlOf (q .ask)) len ⌝ }
+{
+    let ask = q.ask;
+    let control = control_of(ask);
+    let kind = q.kind;
+    match kind {
+        Kind::Standard => Standard::frame(Way::Reply, address, control, len),
+        Kind::Advanced => Advanced::frame(Way::Reply, address, control, len),
+    }
+}
+
 // Whether a sound frame answers the request.
 fn answers_to(q: Request, f: Frame, t: Told, reply: &[u8]) -> bool
     requires { ⌜ (judged Way.Reply (now reply) ≡ Verdict.wellFormed f) × (t ≡ toldOf f (now reply)) ⌝ }
     ensures { λ r. ⌜ r ≡ answersTo q f (now (reply .entry)) ⌝ }
 {
+    let wanted = reply_to(q, f.address, f.len);
     let kind = f.kind;
-    let wanted = q.kind;
-    if !same_kind(kind, wanted) {
+    let asked = wanted.kind;
+    if !same_kind(kind, asked) {
         return false;
     }
     if f.address as u64 != q.desk {
         return false;
     }
-    let ask = q.ask;
-    if f.control != control_of(ask) {
+    if f.control != wanted.control {
         return false;
     }
     if !is_possible(q, t.status, f.len) {

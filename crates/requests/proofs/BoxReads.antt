@@ -9,10 +9,10 @@ use Rattle.frame.specs.declared.Kind.{Kind}
 use Rattle.frame.specs.declared.Kind.the-variants.{Standard, Advanced}
 use Rattle.frame.specs.declared.Way.the-variants.{Request}
 use Rattle.frame.specs.declared.Frame.{Frame}
-use Rattle.frame.specs.Shape.{shapeOf, replyRoom, overhead}
+use Rattle.frame.specs.Shape.{shapeOf, replyRoom, overhead, frameWith}
 use Rattle.frame.specs.Judged.{wellFormed, judged, dataOf}
 use Rattle.frame.specs.Sealed.{frameOf}
-use Rattle.frame.proofs.ReadBack.{madeOf, request-back, request-parts, request-data}
+use Rattle.frame.proofs.ReadBack.{request-back, request-parts, request-data}
 use Rattle.table.specs.Entries.{desks}
 use Rattle.rules.specs.Config.{blockSize}
 use Rattle.rules.specs.Desk.{Desk}
@@ -53,7 +53,7 @@ asked q d =
 
 module _ (q : Asked) (size : length (q .bytes) ≡ blockSize) where
   abbrev pub parts : Frame
-  parts = madeOf Request (q .kind) (q .desk) (controlOf (q .ask)) (length (dataFor q))
+  parts = frameWith Request (q .kind) (q .desk) (controlOf (q .ask)) (length (dataFor q))
 
   pub request-fits : overhead Request (q .kind) + length (dataFor q) ≤ shapeOf (q .kind) .longest
   request-fits = few-fit (q .kind) (length (dataFor q)) (omega (arith, body-size (q .ask) (q .bytes) size, few (q .ask)))

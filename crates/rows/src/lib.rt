@@ -118,8 +118,8 @@ pub fn restore_block(row: &mut [u8], eeprom: bool, k: usize)
     requires { ⌜ (length (now row) ≡ rowWidth) × (k < blockCount) ⌝ }
     ensures { λ _. ⌜ now (row .exit) ≡ writtenRow eeprom k (blockAt k defaults) (now (row .entry)) ⌝ }
 {
-    let b = fresh::default_block(k);
-    write_block(row, eeprom, k, &b);
+    let at = memory_at(eeprom);
+    fresh::put_block(&mut row[at..at + MEMORY], k, fresh::default_block(k));
 }
 
 // All blocks of a memory to their defaults.
