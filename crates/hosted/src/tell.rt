@@ -102,11 +102,16 @@ fn record_at(sent: &[u8], i: usize) {
     }
 }
 
-fn recorded(sent: &[u8]) {
-    let n = match typed::count_in(sent) {
+// How many records the data carry; of data that no reply carries, none.
+fn count_of(sent: &[u8]) -> usize {
+    match typed::count_in(sent) {
         CountTold::Records(n) => n,
         CountTold::Refused(_) => 0,
-    };
+    }
+}
+
+fn recorded(sent: &[u8]) {
+    let n = count_of(sent);
     let mut i: usize = 0;
     while i < n {
         record_at(sent, i);
