@@ -1,8 +1,9 @@
 /*
- * A day at one desk: a login, a write, a read, sightings, and the records read back and printed as scan lines.
+ * A day at one desk: a login, a write, a read, sightings, and the records read back, told and printed as scan lines.
  * ./lib at the root builds and runs it; by hand:
- *     cc -Wall -Wextra -Iinclude examples/day.c target/staticlib/libdepot_c.a -o day
+ *     cc -Wall -Wextra -Iinclude examples/day.c target/staticlib/libdepot_c.a target/staticlib/libhost_c.a -o day
  */
+#include <inttypes.h>
 #include <stdio.h>
 #include <stdlib.h>
 #include <string.h>
@@ -52,6 +53,21 @@ static void sight(uint64_t uid)
     stop_if_refused("tick", depot_tick(store, sizeof store));
 }
 
+static void print_timer(struct told told)
+{
+    uint64_t timer[DEPOT_TIMER_FIELDS];
+    stop_if_refused("timer", depot_timer(told.data, told.len, timer, DEPOT_TIMER_FIELDS));
+    printf("%d h, %d min, %d ms\n", (int)timer[DEPOT_TIMER_HOUR], (int)timer[DEPOT_TIMER_MINUTE], (int)timer[DEPOT_TIMER_MILLISECONDS]);
+}
+
+/* The oldest record is number 0. */
+static void print_oldest(struct told told)
+{
+    uint64_t record[DEPOT_RECORD_FIELDS];
+    stop_if_refused("record", depot_record(told.data, told.len, 0, record, DEPOT_RECORD_FIELDS));
+    printf("oldest: tag %016" PRIX64 ", antennas %02X\n", record[DEPOT_RECORD_UID], (unsigned)record[DEPOT_RECORD_MASK]);
+}
+
 int main(void)
 {
     /* Block 7 shapes a line: hex digits, a semicolon between UID and timer, LF, and four octets before it all. */
@@ -64,17 +80,19 @@ int main(void)
     ask("login", DEPOT_LOGIN, 0, none, 0);
     ask("write", DEPOT_WRITE_BLOCK, 7, shape, sizeof shape);
     struct told told = ask("read", DEPOT_READ_BLOCK, 7, none, 0);
-    if (told.len != sizeof block || memcmp(told.data, shape, sizeof block) != 0) {
+    stop_if_refused("block", depot_block(told.data, told.len, block, sizeof block));
+    if (memcmp(block, shape, sizeof block) != 0) {
         fprintf(stderr, "read: not the block that was written\n");
         return 1;
     }
-    memcpy(block, told.data, sizeof block);
 
     sight(UINT64_C(0xE007000001645E37));
     sight(UINT64_C(0xE007000001645E38));
     sight(UINT64_C(0xE007000001645E37));
 
+    print_timer(ask("timer", DEPOT_SEND_TIMER, 0, none, 0));
     told = ask("records", DEPOT_READ_RECORDS, 64, none, 0);
+    print_oldest(told);
     uint64_t wrote = depot_lines(block, sizeof block, told.data, told.len, text, sizeof text);
     stop_if_refused("lines", wrote);
     fwrite(text, 1, DEPOT_LENGTH(wrote), stdout);
@@ -83,5 +101,8 @@ int main(void)
     /* A refusal is a number, and nothing was written. */
     uint64_t refused = depot_make(DEPOT_ADVANCED, DESK, DEPOT_READ_RECORDS, 0, 0, 0, none, 0, text, sizeof text);
     printf("none asked: refused %d\n", (int)refused);
+
+    /* A store that was kept in a file would be tested so. */
+    puts(depot_test(store, sizeof store) == DEPOT_DONE ? "store: sound" : "store: not sound");
     return 0;
 }

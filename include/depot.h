@@ -1,12 +1,18 @@
 /*
  * depot.h: the shared depot box, its host side and its scan lines, for C.
  *
- * Link target/staticlib/libdepot_c.a, which ./lib at the root builds. Every function below is proved to keep its promise
- * (crates/depot_c): for any numbers and any octets it ends with one of the answers named here, and a refused call leaves
- * every octet that it was lent as it was.
+ * Two archives, which ./lib at the root builds. Link what you call; the two share no symbol.
+ *   target/staticlib/libdepot_c.a  the box: depot_fresh, depot_test, depot_frame, depot_sighting, depot_tick
+ *   target/staticlib/libhost_c.a   the host side: depot_make, depot_read, depot_block, depot_timer, depot_sizes, depot_record,
+ *                                  depot_line, depot_lines
+ * Every function below is proved to keep its promise (crates/depot_c, crates/host_c): for any numbers and any octets it ends
+ * with one of the answers named here, and a refused call leaves all that it was lent as it was.
  *
- * What the caller owes, and no proof can give: a pointer is never NULL and points to as many octets as the length behind it
- * says (a length of 0 is fine, with a pointer to anything), and an output overlaps no other buffer of the call.
+ * What a call writes: depot_test and depot_read nothing, they only read; depot_fresh, depot_sighting and depot_tick the store;
+ * depot_frame store and out; all others out alone.
+ *
+ * What the caller owes, and no proof can give: a pointer is never NULL and points to as many octets, or numbers, as the length
+ * behind it says (a length of 0 is fine, with a pointer to anything), and an output overlaps no other buffer of the call.
  *
  * There is no hidden state: the box is the store, DEPOT_STORE_SIZE octets that the caller keeps. Two stores are two boxes.
  */
@@ -28,6 +34,25 @@ extern "C" {
 #define DEPOT_RECORD_SIZE 13    /* a record: UID 8, timer 4, antenna mask 1 */
 #define DEPOT_DESKS 8           /* desks 0 to 7 */
 
+/* ---- sizes, in numbers of 64 bits, and which of the numbers is what */
+
+#define DEPOT_TIMER_FIELDS 3         /* depot_timer */
+#define DEPOT_TIMER_HOUR 0
+#define DEPOT_TIMER_MINUTE 1
+#define DEPOT_TIMER_MILLISECONDS 2
+
+#define DEPOT_SIZES_FIELDS 3         /* depot_sizes */
+#define DEPOT_SIZES_TAB_SIZE 0
+#define DEPOT_SIZES_TAB_START 1
+#define DEPOT_SIZES_TAB_LEN 2
+
+#define DEPOT_RECORD_FIELDS 5        /* depot_record */
+#define DEPOT_RECORD_UID 0
+#define DEPOT_RECORD_HOUR 1
+#define DEPOT_RECORD_MINUTE 2
+#define DEPOT_RECORD_MILLISECONDS 3
+#define DEPOT_RECORD_MASK 4
+
 /* ---- answers */
 
 /*
@@ -40,7 +65,7 @@ extern "C" {
  *   2^16 + ticks             a sighting: ignored. Today ticks is 0: it is kept for the ticks that the lock has left
  *   2^32 + s * 2^24 + a * 2^16 + n
  *                            what the reader found: status s, data of n octets from place a on
- *   2^63 + n                 n octets stand at the start of the output
+ *   2^63 + n                 n octets, or n numbers, stand at the start of the output
  * Set aside, so that no number above has to move; no call gives these yet:
  *   2 * 2^32 + q * 2^8 + p   a question: q is the number of the sighting, p the place of the latest record, from 1; 0 for none
  *   3 * 2^32 + p             a lookup: the place of the record; 0 for none
@@ -61,7 +86,7 @@ extern "C" {
 #define DEPOT_NO_DESK 5         /* a desk above 7 */
 #define DEPOT_OUT_OF_RANGE 6    /* an argument out of range */
 #define DEPOT_NO_ROOM 7         /* the output has too little room */
-#define DEPOT_NOT_THE_REPLY 8   /* a sound frame that does not answer the request */
+#define DEPOT_NOT_THE_REPLY 8   /* a sound frame that does not answer the request; data that no reply to the command carries */
 
 #define DEPOT_RECORDED 64
 #define DEPOT_LOST 65           /* the desk holds 64 records; the overflow mark is set */
@@ -108,6 +133,12 @@ extern "C" {
 uint64_t depot_fresh(uint8_t *store, size_t store_len);
 
 /*
+ * Is this store sound: one that was kept in a file, say. The three calls below make the same test first. Only reads.
+ * Answers: DEPOT_DONE; DEPOT_UNSOUND.
+ */
+uint64_t depot_test(const uint8_t *store, size_t store_len);
+
+/*
  * A frame arrives on the line, and the desk that it names answers.
  * Answers: DEPOT_WRITTEN, a reply of DEPOT_LENGTH (n) octets; refusals 1, 2, 3, 4, 5, the least that fits.
  * Afterwards: answered, the reply stands in out[0] to out[n - 1], the octets behind it are as before, and the store is sound
@@ -149,9 +180,49 @@ uint64_t depot_make(uint64_t kind, uint64_t desk, uint64_t control, uint64_t a, 
  * Answers: DEPOT_READ: the status is DEPOT_STATUS, and the data are DEPOT_DATA_LENGTH octets from reply[DEPOT_START] on;
  * refusals 3, 4, 8, the least that fits. 8 is given where kind, address or control byte differ, where no sound store answers
  * that request with that status and data length, where a record count does not fit the length, and to what is no request.
- * Nothing is written.
+ * Only reads.
  */
 uint64_t depot_read(uint64_t kind, uint64_t desk, uint64_t control, uint64_t a, uint64_t b, uint64_t c, const uint8_t *bytes, size_t bytes_len, const uint8_t *reply, size_t reply_len);
+
+/* ---- what the data of a reply say: sent are the data, from reply[DEPOT_START] on, as depot_read found them */
+
+/*
+ * The bytes of a block, of a reply to DEPOT_READ_BLOCK.
+ * Answers: DEPOT_WRITTEN, with DEPOT_BLOCK_SIZE octets; refusals, the least that fits:
+ *   7  out_len is below DEPOT_BLOCK_SIZE
+ *   8  sent_len is not DEPOT_BLOCK_SIZE
+ * Afterwards: written, the octets stand at the start of out and those behind them are as before; refused, out is as before.
+ */
+uint64_t depot_block(const uint8_t *sent, size_t sent_len, uint8_t *out, size_t out_len);
+
+/*
+ * Hour, minute and milliseconds, of a reply to DEPOT_SEND_TIMER. out_len counts numbers, here and in the next two.
+ * Answers: DEPOT_WRITTEN, with DEPOT_TIMER_FIELDS numbers; refusals, the least that fits:
+ *   7  out_len is below DEPOT_TIMER_FIELDS
+ *   8  sent_len is not 4
+ * Afterwards: written, the numbers stand at the start of out and those behind them are as before; refused, out is as before.
+ */
+uint64_t depot_timer(const uint8_t *sent, size_t sent_len, uint64_t *out, size_t out_len);
+
+/*
+ * TAB-SIZE, TAB-START and TAB-LEN, of a reply to DEPOT_SEND_TABLE.
+ * Answers: DEPOT_WRITTEN, with DEPOT_SIZES_FIELDS numbers; refusals, the least that fits:
+ *   7  out_len is below DEPOT_SIZES_FIELDS
+ *   8  sent_len is not 6
+ * Afterwards: as depot_timer.
+ */
+uint64_t depot_sizes(const uint8_t *sent, size_t sent_len, uint64_t *out, size_t out_len);
+
+/*
+ * UID, hour, minute, milliseconds and antenna mask of record i, of a reply to DEPOT_READ_RECORDS. The oldest is record 0.
+ * Such a reply carries no data, or a count from 1 to 64 in two octets, MSB first, and then exactly as many records.
+ * Answers: DEPOT_WRITTEN, with DEPOT_RECORD_FIELDS numbers; refusals, the least that fits:
+ *   6  i is beyond the last: at least (sent_len - 2) / DEPOT_RECORD_SIZE, or sent_len is below 2
+ *   7  out_len is below DEPOT_RECORD_FIELDS
+ *   8  data that no such reply carries
+ * Afterwards: as depot_timer. Asked for 0, 1, 2 and so on, the first 6 is the end.
+ */
+uint64_t depot_record(const uint8_t *sent, size_t sent_len, size_t i, uint64_t *out, size_t out_len);
 
 /* ---- scan lines */
 
@@ -165,9 +236,12 @@ uint64_t depot_read(uint64_t kind, uint64_t desk, uint64_t control, uint64_t a, 
 uint64_t depot_line(const uint8_t *block, size_t block_len, const uint8_t *record, size_t record_len, uint8_t *out, size_t out_len);
 
 /*
- * Writes a line for each record in the data of a reply to DEPOT_READ_RECORDS, one behind the other, all or none.
- * sent is those data: the count in two octets, then the records; only as many as its length has are written.
- * Answers, and afterwards: as depot_line, with no test of record_len.
+ * Writes a line for each record in the data of a reply to DEPOT_READ_RECORDS, one behind the other, all or none; where there
+ * are no data, no line.
+ * Answers: DEPOT_WRITTEN, lines of DEPOT_LENGTH octets together; refusals, the least that fits:
+ *   6  block_len is not DEPOT_BLOCK_SIZE; the block breaks the rules of block 7; sent is what no such reply carries (depot_record)
+ *   7  the lines do not fit in out_len octets
+ * Afterwards: as depot_line.
  */
 uint64_t depot_lines(const uint8_t *block, size_t block_len, const uint8_t *sent, size_t sent_len, uint8_t *out, size_t out_len);
 

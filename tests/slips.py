@@ -3,8 +3,8 @@
 and tells whether random events notice it: `slips.py [FILE.txt ...]`.
 
 A slip is a line `# why`, then `file:`, `old:` and `new:`; `old` stands once in
-the file. What the listing does not reach (store, host, lines) is seen by
-`sides`, all else by `second` on the lines of `events`."""
+the file. What the listing does not reach (store, host, data, lines) is seen
+by `sides`, all else by `second` on the lines of `events`."""
 
 import os
 import shutil
@@ -17,7 +17,7 @@ from queue import Queue
 HERE = os.path.dirname(os.path.abspath(__file__))
 SECOND = os.path.join(HERE, "second", "src")
 SLIPS = os.path.join(HERE, "slips")
-BY_SIDES = ("store.txt", "host.txt", "lines.txt")
+BY_SIDES = ("store.txt", "host.txt", "data.txt", "lines.txt")
 # The short run first: it notices most, and the first that differs is enough.
 EVENTS = [(1, 4000), (2, 20000), (3, 20000)]
 SIDES = [(1, 2000), (2, 10000), (3, 10000)]

@@ -1,7 +1,7 @@
-//! A day at one desk: a login, a write, a read, sightings, and the records read back and printed as scan lines.
+//! A day at one desk: a login, a write, a read, sightings, and the records read back, told and printed as scan lines.
 use std::num::NonZeroU8;
 
-use depot::{lines, records, Ask, Block, Desk, Kind, Refusal, Request, Store, Told, REPLY_SIZE};
+use depot::{block, lines, records, sound, timer, Ask, Block, Desk, Kind, Refusal, Request, Store, Told, REPLY_SIZE};
 
 /// Asks a desk: the request is made, handed to the box, and the reply is read.
 fn ask<'a>(store: &mut Store<Box<[u8]>>, desk: Desk, ask: Ask, reply: &'a mut [u8; REPLY_SIZE]) -> Result<Told<'a>, Refusal> {
@@ -26,7 +26,7 @@ fn main() -> Result<(), Refusal> {
     println!("write: status {:02X}", write.status);
 
     let read = ask(&mut store, desk, Ask::ReadBlock(7), &mut reply)?;
-    let block: Block = read.data.try_into().expect("a block has fourteen bytes");
+    let block = block(read.data)?;
     println!("read: status {:02X}, the same block: {}", read.status, block == shape);
 
     let antenna = NonZeroU8::MIN;
@@ -35,8 +35,14 @@ fn main() -> Result<(), Refusal> {
         store.tick();
     }
 
+    let told = ask(&mut store, desk, Ask::SendTimer, &mut reply)?;
+    println!("timer: {:?}", timer(told.data)?);
+
     let told = ask(&mut store, desk, Ask::ReadRecords(64), &mut reply)?;
-    println!("records: status {:02X}, {} of them", told.status, records(told.data).count());
+    println!("records: status {:02X}", told.status);
+    for record in records(told.data)? {
+        println!("tag {:016X} at {} ms, antennas {:02X}", record.uid, record.timer.milliseconds, record.mask);
+    }
     let mut text = [0; 1024];
     print!("{}", String::from_utf8_lossy(lines(&block, told.data, &mut text)?));
 
@@ -44,5 +50,6 @@ fn main() -> Result<(), Refusal> {
     println!("remove: status {:02X}", removed.status);
     let refused = ask(&mut store, desk, Ask::ReadRecords(0), &mut reply);
     println!("none asked: {}", refused.unwrap_err());
+    println!("sound: {}", sound(store.octets()).is_ok());
     Ok(())
 }

@@ -20,7 +20,7 @@ pub enum Refusal {
     OutOfRange = 6,
     /// The output has too little room.
     NoRoom = 7,
-    /// A sound frame that does not answer the request.
+    /// A sound frame that does not answer the request, or data that no reply to the command carries.
     NotTheReply = 8,
 }
 
@@ -60,7 +60,7 @@ impl fmt::Display for Refusal {
             Refusal::NoDesk => "there is no desk above 7",
             Refusal::OutOfRange => "an argument is out of range",
             Refusal::NoRoom => "the output has too little room",
-            Refusal::NotTheReply => "this is no reply to the request",
+            Refusal::NotTheReply => "this is no reply to the request, or no data of such a reply",
         };
         write!(f, "refused {}: {}", self.number(), why)
     }
@@ -100,8 +100,8 @@ pub(crate) fn seen(code: u64) -> Result<Seen, Refusal> {
     }
 }
 
-/// The octets at the start of the output, or a refusal.
-pub(crate) fn written(code: u64, out: &[u8]) -> Result<&[u8], Refusal> {
+/// What stands at the start of the output, or a refusal.
+pub(crate) fn written<T>(code: u64, out: &[T]) -> Result<&[T], Refusal> {
     match length(code) {
         Some(n) => Ok(&out[..n]),
         None => Err(Refusal::of(code).unwrap_or_else(|| unnamed(code))),

@@ -1,4 +1,4 @@
-//! The shared depot box, its host side and its scan lines: a safe wrapper over `libdepot_c.a`, which is proved.
+//! The shared depot box, its host side and its scan lines: a safe wrapper over `libdepot_c.a` and `libhost_c.a`, which are proved.
 //!
 //! A login and a write, and the block read back:
 //!
@@ -13,15 +13,17 @@
 //!     let told = request.read(answer)?;
 //!     assert_eq!(told.status, 0x00);
 //!     if let Ask::ReadBlock(_) = ask {
-//!         assert_eq!(told.data, b"fourteen bytes");
+//!         assert_eq!(&depot::block(told.data)?, b"fourteen bytes");
 //!     }
 //! }
 //! # Ok::<(), depot::Refusal>(())
 //! ```
 //!
-//! What the library promises is proved (`crates/depot_c`); what stands here is the way to it, and is tested. A call that is refused
-//! leaves store and output octet for octet.
+//! What the library promises is proved (`crates/depot_c`, `crates/host_c`); what stands here is the way to it, and is tested. A call
+//! that is refused leaves store and output octet for octet. Of the calls here [`sound`], [`Request::read`] and what reads the data of
+//! a reply ([`block`], [`timer`], [`sizes`], [`record`], [`records`]) only read.
 mod answer;
+mod data;
 mod host;
 mod lines;
 pub mod numbers;
@@ -30,7 +32,8 @@ mod store;
 mod sys;
 
 pub use answer::{Refusal, Seen, Told};
+pub use data::{block, record, records, sizes, timer, Block, Record, Sizes, Timer};
 pub use host::{Ask, Kind, Request, ALL_BLOCKS, EEPROM};
-pub use lines::{line, lines, records, Block, Record, DEFAULT_BLOCK_7};
+pub use lines::{line, lines, DEFAULT_BLOCK_7};
 pub use numbers::{REPLY_SIZE, STORE_SIZE};
-pub use store::{Desk, Store};
+pub use store::{sound, Desk, Store};

@@ -29,6 +29,18 @@ impl Desk {
     }
 }
 
+/// Whether octets are a sound store: those of a file, say. Only reads. Refused: `Unsound`.
+///
+/// ```
+/// use depot::{sound, Refusal, Store};
+/// let kept = Store::fresh().octets().to_vec();
+/// assert_eq!(sound(&kept), Ok(()));
+/// assert_eq!(sound(&kept[1..]), Err(Refusal::Unsound));
+/// ```
+pub fn sound(octets: &[u8]) -> Result<(), Refusal> {
+    done(raw::test(octets))
+}
+
 /// A sound store, that owns its octets (`Store<Box<[u8]>>`, `Store<Vec<u8>>`) or borrows them (`Store<&mut [u8]>`).
 ///
 /// Every call leaves it sound, so none of them is refused for the store.
@@ -84,12 +96,9 @@ impl<B: DerefMut<Target = [u8]>> Store<B> {
     /// assert!(depot::Store::over(kept).is_ok());
     /// assert!(depot::Store::over(vec![7; depot::STORE_SIZE]).is_err());
     /// ```
-    pub fn over(mut octets: B) -> Result<Self, Refusal> {
-        // The store is tested first, and then a reply buffer of no octets is refused: so this call changes nothing.
-        match Refusal::of(raw::frame(&mut octets, &[], &mut [])) {
-            Some(Refusal::SmallBuffer) => Ok(Store { octets }),
-            _ => Err(Refusal::Unsound),
-        }
+    pub fn over(octets: B) -> Result<Self, Refusal> {
+        sound(&octets)?;
+        Ok(Store { octets })
     }
 
     /// The octets, to be kept.

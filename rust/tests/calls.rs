@@ -2,7 +2,7 @@
 //! that writes leaves the octets behind what it wrote: the outputs are longer than they need to be, and filled with a guard.
 use depot::numbers::{length, BLOCK_SIZE, DONE, IGNORED, LOST, RECORDED, RECORD_SIZE, TOLD, WRITTEN};
 use depot::raw::{self, Asked};
-use depot::{Record, Refusal, Store, DEFAULT_BLOCK_7, REPLY_SIZE, STORE_SIZE};
+use depot::{record, records, sound, Record, Refusal, Sizes, Store, Timer, DEFAULT_BLOCK_7, REPLY_SIZE, STORE_SIZE};
 
 const GUARD: u8 = 0xA5;
 const RESET: [u8; 5] = [0x05, 0x00, 0x64, 0xAC, 0x25];
@@ -56,6 +56,21 @@ fn fresh_is_of_any_octets() {
 fn fresh_refuses_another_size() {
     for n in [0, 1, STORE_SIZE - 1, STORE_SIZE + 1] {
         box_refuses(&guard(n), 0, Refusal::Unsound, |s, _| raw::fresh(s));
+    }
+}
+
+#[test]
+fn test_tells_a_sound_store() {
+    let mut s = fresh();
+    assert_eq!(raw::test(&s), DONE);
+    assert_eq!(raw::sighting(&mut s, 7, UID, 255), RECORDED);
+    assert_eq!((raw::test(&s), sound(&s)), (DONE, Ok(())));
+    let longer = [&s[..], &[0]].concat();
+    let mut damaged = s.clone();
+    damaged[0] = 0xFF;
+    for s in [&[][..], &guard(STORE_SIZE), &s[1..], &s[..STORE_SIZE - 1], &longer, &damaged] {
+        refused(raw::test(s), Refusal::Unsound);
+        assert_eq!((sound(s), Store::over(s.to_vec()).err()), (Err(Refusal::Unsound), Some(Refusal::Unsound)));
     }
 }
 
@@ -202,6 +217,101 @@ fn read_refuses_in_rising_number() {
     }
 }
 
+// ---- what the data of a reply say
+
+/// A call over an output of `room` numbers: what it answers, and what it left.
+fn put(room: usize, call: impl Fn(&mut [u64]) -> u64) -> (u64, Vec<u64>) {
+    let mut out = vec![u64::MAX; room];
+    (call(&mut out), out)
+}
+
+fn puts(room: usize, wanted: &[u64], call: impl Fn(&mut [u64]) -> u64) {
+    let behind = vec![u64::MAX; room - wanted.len()];
+    assert_eq!(put(room, call), (WRITTEN + wanted.len() as u64, [wanted, &behind].concat()));
+}
+
+fn put_refuses(room: usize, wanted: Refusal, call: impl Fn(&mut [u64]) -> u64) {
+    assert_eq!(put(room, call), (u64::from(wanted.number()), vec![u64::MAX; room]));
+}
+
+/// The data of a reply with so many records.
+fn data(count: usize) -> Vec<u8> {
+    [&[0, count as u8][..], &RECORD.repeat(count)].concat()
+}
+
+#[test]
+fn block_is_told() {
+    let sent = *b"fourteen bytes";
+    let mut out = guard(BLOCK_SIZE + 1);
+    let code = raw::block(&sent, &mut out);
+    assert_eq!(wrote(code, &out), sent);
+    assert_eq!(raw::block(&sent, &mut guard(BLOCK_SIZE)), WRITTEN + BLOCK_SIZE as u64);
+    assert_eq!(depot::block(&sent), Ok(sent));
+    let refuses = |sent: &[u8], room, wanted| box_refuses(&[], room, wanted, |_, out| raw::block(sent, out));
+    refuses(&sent[1..], BLOCK_SIZE - 1, Refusal::NoRoom);
+    refuses(&sent, 0, Refusal::NoRoom);
+    for sent in [&[][..], &sent[1..], &[0; BLOCK_SIZE + 1]] {
+        refuses(sent, BLOCK_SIZE, Refusal::NotTheReply);
+        assert_eq!(depot::block(sent), Err(Refusal::NotTheReply));
+    }
+}
+
+#[test]
+fn timer_and_sizes_are_told() {
+    let (timer, sizes) = ([23, 59, 0xEA, 0x5F], [0, 64, 1, 2, 0xFF, 0xFE]);
+    for room in [3, 4] {
+        puts(room, &[23, 59, 59999], |out| raw::timer(&timer, out));
+        puts(room, &[64, 258, 65534], |out| raw::sizes(&sizes, out));
+    }
+    assert_eq!(depot::sizes(&sizes), Ok(Sizes { size: 64, start: 258, len: 65534 }));
+    for sent in [&[][..], &timer[1..], &[0; 5], &sizes[1..], &[0; 7]] {
+        put_refuses(2, Refusal::NoRoom, |out| raw::timer(sent, out));
+        put_refuses(2, Refusal::NoRoom, |out| raw::sizes(sent, out));
+        put_refuses(3, Refusal::NotTheReply, |out| raw::timer(sent, out));
+        put_refuses(3, Refusal::NotTheReply, |out| raw::sizes(sent, out));
+        assert_eq!((depot::timer(sent), depot::sizes(sent)), (Err(Refusal::NotTheReply), Err(Refusal::NotTheReply)));
+    }
+}
+
+#[test]
+fn record_is_told() {
+    let fields = [UID, 1, 2, 1000, 1];
+    let whole = Record { uid: UID, timer: Timer { hour: 1, minute: 2, milliseconds: 1000 }, mask: 1 };
+    assert_eq!(whole.octets(), RECORD);
+    for count in [1, 2, 64] {
+        let sent = data(count);
+        puts(5, &fields, |out| raw::record(&sent, count - 1, out));
+        puts(9, &fields, |out| raw::record(&sent, 0, out));
+        assert_eq!(records(&sent).unwrap().collect::<Vec<_>>(), vec![whole; count]);
+        assert_eq!(record(&sent, count), Err(Refusal::OutOfRange));
+    }
+    assert_eq!(records(&[]).unwrap().next(), None);
+    // Every octet of a record has its place.
+    let octets: [u8; RECORD_SIZE] = std::array::from_fn(|at| 0xF0 + at as u8);
+    assert_eq!(record(&[&[0, 1][..], &octets].concat(), 0).unwrap().octets(), octets);
+}
+
+#[test]
+fn record_refuses_in_rising_number() {
+    for i in [2, 3, usize::MAX] {
+        put_refuses(0, Refusal::OutOfRange, |out| raw::record(&data(2)[..27], i, out));
+        put_refuses(5, Refusal::OutOfRange, |out| raw::record(&data(2), i, out));
+    }
+    put_refuses(4, Refusal::NoRoom, |out| raw::record(&data(2)[..27], 0, out));
+    put_refuses(4, Refusal::NoRoom, |out| raw::record(&data(2), 1, out));
+    let of = |count: [u8; 2], records: usize| [&count[..], &RECORD.repeat(records)].concat();
+    let none = [of([0, 0], 1), of([0, 2], 1), of([0, 1], 2), of([1, 1], 1), of([0, 65], 65), data(2)[..27].to_vec(), [data(2), vec![0]].concat()];
+    for sent in none {
+        put_refuses(5, Refusal::NotTheReply, |out| raw::record(&sent, 0, out));
+        assert_eq!(records(&sent).err(), Some(Refusal::NotTheReply));
+        box_refuses(&[], 3000, Refusal::OutOfRange, |_, out| raw::lines(&DEFAULT_BLOCK_7, &sent, out));
+    }
+    for sent in [&[][..], &[0], &[0, 0], &[0, 1], &data(1)[..14]] {
+        put_refuses(5, Refusal::OutOfRange, |out| raw::record(sent, 0, out));
+        assert_eq!(records(sent).err(), (!sent.is_empty()).then_some(Refusal::NotTheReply));
+    }
+}
+
 // ---- scan lines
 
 #[test]
@@ -209,8 +319,8 @@ fn line_is_written() {
     let mut out = guard(40);
     let code = raw::line(&DEFAULT_BLOCK_7, &RECORD, &mut out);
     assert_eq!(wrote(code, &out), LINE);
-    let record = Record(RECORD);
-    assert_eq!((record.uid(), record.hour(), record.minute(), record.milliseconds(), record.mask()), (UID, 1, 2, 1000, 1));
+    let oldest = record(&data(1), 0).unwrap();
+    assert_eq!(depot::line(&DEFAULT_BLOCK_7, &oldest, &mut guard(40)), Ok(LINE));
 }
 
 #[test]
@@ -226,7 +336,7 @@ fn line_refuses() {
 
 #[test]
 fn lines_are_written_all_or_none() {
-    let sent = [&[0, 2][..], &RECORD, &RECORD].concat();
+    let sent = data(2);
     let mut out = guard(80);
     let code = raw::lines(&DEFAULT_BLOCK_7, &sent, &mut out);
     assert_eq!(wrote(code, &out), [LINE, LINE].concat());
@@ -235,4 +345,7 @@ fn lines_are_written_all_or_none() {
     refuses(&DEFAULT_BLOCK_7[1..], 80, Refusal::OutOfRange);
     refuses(&[1; BLOCK_SIZE], 80, Refusal::OutOfRange);
     refuses(&DEFAULT_BLOCK_7, 2 * LINE.len() - 1, Refusal::NoRoom);
+    for sent in [&[0][..], &[0, 0], &[0, 1], &sent[..sent.len() - 1]] {
+        box_refuses(&[], 0, Refusal::OutOfRange, |_, out| raw::lines(&DEFAULT_BLOCK_7, sent, out));
+    }
 }

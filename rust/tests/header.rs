@@ -19,6 +19,24 @@ fn sizes_are_the_same() {
     assert_eq!(defined("DEPOT_DESKS"), u64::from(DESKS));
 }
 
+/// The names of the header's numbers stand in the order in which the wrapper takes them apart.
+#[test]
+fn fields_are_the_same() {
+    let timer = ["HOUR", "MINUTE", "MILLISECONDS"];
+    let record = ["UID", "HOUR", "MINUTE", "MILLISECONDS", "MASK"];
+    let fields = [
+        ("TIMER", TIMER_FIELDS, &timer[..]),
+        ("SIZES", SIZES_FIELDS, &["TAB_SIZE", "TAB_START", "TAB_LEN"]),
+        ("RECORD", RECORD_FIELDS, &record),
+    ];
+    for (what, count, names) in fields {
+        assert_eq!((defined(&format!("DEPOT_{what}_FIELDS")), names.len()), (count as u64, count));
+        for (place, name) in names.iter().enumerate() {
+            assert_eq!(defined(&format!("DEPOT_{what}_{name}")), place as u64);
+        }
+    }
+}
+
 #[test]
 fn codes_are_the_same() {
     assert_eq!(defined("DEPOT_DONE"), DONE);

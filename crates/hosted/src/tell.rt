@@ -102,7 +102,8 @@ fn record_at(sent: &[u8], i: usize) {
     }
 }
 
-fn count(sent: &[u8]) -> usize {
+// How many records the data carry; of data that no reply carries, none.
+fn count_of(sent: &[u8]) -> usize {
     match typed::count_in(sent) {
         CountTold::Records(n) => n,
         CountTold::Refused(_) => 0,
@@ -110,7 +111,7 @@ fn count(sent: &[u8]) -> usize {
 }
 
 fn recorded(sent: &[u8]) {
-    let n = count(sent);
+    let n = count_of(sent);
     let mut i: usize = 0;
     while i < n {
         record_at(sent, i);

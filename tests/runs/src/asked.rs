@@ -121,7 +121,7 @@ pub fn line(block: &[u8], record: &[u8], out: &mut [u8]) -> u64 {
     }
 }
 
-/// `depot_lines`: so is a block; the data may have any length.
+/// `depot_lines`: so is a block.
 pub fn lines(block: &[u8], sent: &[u8], out: &mut [u8]) -> u64 {
     match block.try_into() {
         Ok(block) => octets_code(lines::lines(block, sent, out)),

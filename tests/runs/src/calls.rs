@@ -1,11 +1,13 @@
 //! The calls on a store at the library's box and at the second program's, whose answers are told in the library's numbers.
 
+use crate::guarded::{Guarded, Mark};
 use depot::numbers::{DONE, IGNORED, LOST, RECORDED, TOLD, WRITTEN};
 use second::frame::Refusal;
 use second::gen::Gen;
 use second::listing::{event, Event};
 use second::model::{Seen, Uid};
 use second::place;
+use std::fmt::Debug;
 
 /// A call on a store, with numbers as wide as C passes them.
 #[derive(Clone, PartialEq, Eq, Debug)]
@@ -43,6 +45,15 @@ pub fn second_box(store: &mut [u8], call: &Call, out: &mut [u8]) -> u64 {
         Call::Sighting { desk, uid, mask } => seen_code(place::sighting(store, *desk, *uid, octet_mask(*mask))),
         Call::Tick => done_code(place::tick(store)),
     }
+}
+
+/// A call that writes only to a lent output, at both: the same code, and the same left in the output.
+pub fn both<T: Mark>(what: impl Debug, out: &[T], second: impl FnOnce(&mut [T]) -> u64, library: impl FnOnce(&mut [T]) -> u64) -> u64 {
+    let (mut wanted, mut mine) = (out.to_vec(), Guarded::new(out));
+    let code = second(&mut wanted);
+    assert_eq!(library(mine.inner()), code, "{what:02X?}");
+    assert!(mine.taken("output") == wanted, "{what:02X?}: the output differs");
+    code
 }
 
 /// "6 (a mask of 0 or above 255)": what is too large is refused as 0 is.

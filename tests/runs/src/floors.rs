@@ -7,7 +7,7 @@ use second::situations::statuses;
 /// `(calls, call, outcomes)`: each outcome of that call is met at least once in so many calls. A run of fewer calls than that is
 /// not asked for it, so that a short run, as under valgrind, is asked for the frequent ones alone. The numbers leave room for
 /// chance: in sixty runs of 100000 calls the least count was more than twice the floor.
-const FLOORS: [(u64, &str, &[&str]); 26] = [
+const FLOORS: [(u64, &str, &[&str]); 35] = [
     (500, "history", &["0x80 answers 0x00", "0x81 answers 0x00", "0x22 answers 0x00", "done", "recorded"]),
     (1000, "history", &["0xA0 answers 0x00", "ignored"]),
     (5000, "history", &["0x80 answers 0x13", "0xA0 answers 0x14", "0x64 answers 0x00", "0x22 answers 0x93", "0x22 answers 0x94"]),
@@ -21,6 +21,7 @@ const FLOORS: [(u64, &str, &[&str]); 26] = [
     (5000, "sighting", &["refused 5", "refused 5, above 255", "refused 6", "ignored", "lost"]),
     (500, "tick", &["refused 1", "done"]),
     (500, "fresh", &["refused 1", "done"]),
+    (500, "test", &["refused 1", "done"]),
     (500, "make", &["refused 5", "refused 6", "refused 7", "written"]),
     (500, "make", &["refused 6, no kind", "refused 6, no command", "refused 6, a control above 255"]),
     (5000, "make", &["refused 5, no kind", "refused 5, no command", "refused 5, a control above 255"]),
@@ -31,9 +32,17 @@ const FLOORS: [(u64, &str, &[&str]); 26] = [
     (5000, "read", &["status 0x11", "status 0x13", "status 0x14", "status 0x92", "status 0x93", "status 0x94"]),
     (RARE, "read", &["status 0x15", "refused 3, no kind", "refused 3, no command", "refused 4, no kind", "refused 4, no command"]),
     (500, "line", &["refused 6", "written"]),
-    (500, "lines", &["refused 6", "refused 7", "written"]),
+    (500, "lines", &["refused 6"]),
+    (2000, "lines", &["refused 7", "written"]),
     (2000, "line", &["refused 6, a block of another length", "refused 6, a record of another length", "refused 7"]),
-    (2000, "lines", &["refused 6, a block of another length"]),
+    (2000, "lines", &["refused 6, a block of another length", "refused 6, data that no reply carries"]),
+    (5000, "lines", &["written, no data"]),
+    (5000, "block", &["refused 7", "refused 8", "written"]),
+    (5000, "timer", &["refused 7", "refused 8", "written"]),
+    (5000, "sizes", &["refused 7", "refused 8", "written"]),
+    (2000, "record", &["refused 6", "refused 7", "written"]),
+    (2000, "record", &["refused 6, data that no reply carries", "refused 7, data that no reply carries"]),
+    (2000, "record", &["refused 8, data that no reply carries"]),
 ];
 
 const RARE: u64 = 40000;

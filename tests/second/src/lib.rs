@@ -6,6 +6,7 @@ pub mod command;
 pub mod config_stories;
 pub mod coverage;
 pub mod crc;
+pub mod data;
 pub mod frame;
 pub mod gen;
 pub mod host;

@@ -1,9 +1,10 @@
 //! Scan lines: block 7 shapes the line of a record.
 
 use crate::blocks::{block7_legal, Block};
+use crate::data::{carried, records};
 use crate::frame::Refusal;
 use crate::listing::capital_hex;
-use crate::model::{Record, RECORD};
+use crate::model::Record;
 
 /// Writes one line at the start of `out`: how long it is, or refusal 6 or 7.
 pub fn line(block7: &Block, record: &Record, out: &mut [u8]) -> Result<usize, Refusal> {
@@ -13,20 +14,13 @@ pub fn line(block7: &Block, record: &Record, out: &mut [u8]) -> Result<usize, Re
     put(out, &shaped(block7, record))
 }
 
-/// Writes a line for each record in the data of a 0x22 reply: a count in two
-/// octets, then records. How many there are goes by the length.
+/// Writes a line for each record in the data of a 0x22 reply. Data that no
+/// such reply carries are an argument out of range.
 pub fn lines(block7: &Block, data: &[u8], out: &mut [u8]) -> Result<usize, Refusal> {
-    if !block7_legal(block7) {
+    if !block7_legal(block7) || !carried(data) {
         return Err(Refusal::Argument);
     }
-    let records = data.get(2..).unwrap_or(&[]).chunks_exact(RECORD);
-    let text: Vec<u8> = records
-        .flat_map(|octets| {
-            let mut record = [0; RECORD];
-            record.copy_from_slice(octets);
-            shaped(block7, &record)
-        })
-        .collect();
+    let text: Vec<u8> = records(data).flat_map(|record| shaped(block7, record)).collect();
     put(out, &text)
 }
 
@@ -37,7 +31,7 @@ fn put(out: &mut [u8], text: &[u8]) -> Result<usize, Refusal> {
     Ok(text.len())
 }
 
-fn shaped(block7: &Block, record: &Record) -> Vec<u8> {
+fn shaped(block7: &Block, record: &[u8]) -> Vec<u8> {
     let mut text = header(block7).to_vec();
     text.extend(value(block7, &record[..8]));
     text.extend_from_slice(chosen(block7[1], &block7[2..3]));

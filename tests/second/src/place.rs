@@ -1,4 +1,4 @@
-//! The four calls on the octets of a store, in place.
+//! The five calls on the octets of a store, in place.
 
 use crate::blocks::DEFAULTS;
 use crate::frame::{judge_request, seal, Refusal, LONGEST};
@@ -66,7 +66,8 @@ pub fn tick(store: &mut [u8]) -> Result<(), Refusal> {
     Ok(())
 }
 
-fn test(store: &[u8]) -> Result<(), Refusal> {
+/// Is it sound: what the other three calls test first.
+pub fn test(store: &[u8]) -> Result<(), Refusal> {
     if sound(store) {
         Ok(())
     } else {

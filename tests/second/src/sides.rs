@@ -1,9 +1,11 @@
 //! Random calls of what the listing does not reach: the store on octets, sound
-//! or damaged, the host's maker and reader, the line writer. One line a call.
+//! or damaged, the host's maker and reader, what data say, the line writer. One
+//! line a call.
 
 use crate::blocks::BLOCK_BYTES;
 use crate::config_stories::any_block7;
 use crate::crc;
+use crate::data;
 use crate::frame::{seal, Kind, Refusal};
 use crate::gen::Gen;
 use crate::host::{make, read, Request};
@@ -33,6 +35,7 @@ impl Sides {
             24..32 => self.line_writer(),
             32..40 => self.damaged(),
             40 => self.sum(),
+            41..49 => self.teller(),
             _ => self.event(),
         }
     }
@@ -87,16 +90,69 @@ impl Sides {
     fn line_writer(&mut self) -> String {
         let block = any_block7(&mut self.gen);
         let random = &self.gen.random;
-        let mut out = [0xEE; 90];
-        let room = random.pick(&[random.below(90), 90]);
+        let mut out = [0xEE; 2200];
+        let room = random.pick(&[random.below(90), 90, 2200]);
         let record: Record = std::array::from_fn(|_| random.octet());
-        let data = random.octets(random.pick(&[0, 1, 2, 15, 28, 20]));
+        let data = any_records(random);
         let made = match random.below(2) {
             0 => line(&block, &record, &mut out[..room]),
             _ => lines(&block, &data, &mut out[..room]),
         };
-        format!("line {:?} {}", made.map_err(Refusal::number), capital_hex(&out))
+        format!("line {:?} {:04X} {}", made.map_err(Refusal::number), crc::of(&out), capital_hex(&out[..90]))
     }
+
+    fn teller(&mut self) -> String {
+        let random = &self.gen.random;
+        let room = random.pick(&[random.below(7), 7]);
+        let mut numbers = [0xEE; 7];
+        let out = &mut numbers[..room];
+        let (data, i) = (any_records(random), any_place(random));
+        let told = match random.below(6) {
+            0 => return self.block(),
+            1 => data::timer(&any_data(random, 4), out),
+            2 => data::sizes(&any_data(random, 6), out),
+            _ => data::record(&data, i, out),
+        };
+        format!("told {:?} {numbers:?}", told.map_err(Refusal::number))
+    }
+
+    fn block(&self) -> String {
+        let random = &self.gen.random;
+        let mut out = [0xEE; 16];
+        let told = data::block(&any_data(random, BLOCK_BYTES), &mut out[..random.pick(&[13, 14, 15, 16])]);
+        format!("block {:?} {}", told.map_err(Refusal::number), capital_hex(&out))
+    }
+}
+
+/// Data of that length, or of another.
+pub fn any_data(random: &Random, length: usize) -> Vec<u8> {
+    let other = random.pick(&[0, 1, length - 1, length + 1, 4, 6, BLOCK_BYTES, 2 * length]);
+    random.octets(random.pick(&[length, length, other]))
+}
+
+/// The number of a record, of few or of many.
+pub fn any_place(random: &Random) -> usize {
+    random.pick(&[0, 0, 1, 1, 2, 18, 62, 63, 64, 65, random.below(64), usize::MAX])
+}
+
+/// The data of a reply to 0x22; now and then with another count, an octet more
+/// or less, or any octets.
+pub fn any_records(random: &Random) -> Vec<u8> {
+    let held = random.pick(&[0, 1, 1, 2, 2, 3, 19, 63, 64, 65]);
+    let count = match random.below(6) {
+        0 => held + random.pick(&[1, 256, 65535]),
+        1 => random.pick(&[0, 1, 2, 64, 65, 256]),
+        _ => held,
+    };
+    let mut data = [&(count as u16).to_be_bytes()[..], &random.octets(held * RECORD)].concat();
+    match random.below(12) {
+        0 => data.clear(),
+        1 => data.truncate(random.below(data.len() + 1)),
+        2 => data.push(0),
+        3 => data = random.octets(random.pick(&[1, 2, 14, 15, 28, 834, 1000])),
+        _ => {}
+    }
+    data
 }
 
 pub fn served(store: &mut [u8], event: &Event) -> Answer {

@@ -58,5 +58,19 @@ fn each_line_goes_into_the_rest() {
     let mut illegal = DEFAULTS[7];
     illegal[1] = 0x21;
     assert_eq!(lines(&illegal, &data, &mut []), Err(Refusal::Argument));
-    assert_eq!(lines(&DEFAULTS[7], &[0, 0], &mut []), Ok(0));
+}
+
+#[test]
+fn only_what_a_reply_carries() {
+    let mut out = [0xAA; 2000];
+    assert_eq!(lines(&DEFAULTS[7], &[], &mut []), Ok(0));
+    for count in [1, 2, 64] {
+        let data = [&[0, count][..], &RECORD.repeat(count.into())].concat();
+        assert_eq!(lines(&DEFAULTS[7], &data, &mut out), Ok(27 * usize::from(count)));
+        assert_eq!(lines(&DEFAULTS[7], &data, &mut []), Err(Refusal::Room));
+    }
+    let of = |count: [u8; 2], records| [&count[..], &RECORD.repeat(records)].concat();
+    for data in [vec![0], of([0, 0], 0), of([0, 1], 0), of([0, 0], 1), of([1, 1], 1), of([0, 1], 2), of([0, 65], 65)] {
+        assert_eq!(lines(&DEFAULTS[7], &data, &mut []), Err(Refusal::Argument));
+    }
 }

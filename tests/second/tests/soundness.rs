@@ -24,6 +24,7 @@ fn with(store: &[u8], at: usize, octets: &[u8]) -> bool {
     changed[at..at + octets.len()].copy_from_slice(octets);
     let answer = place::tick(&mut changed.clone());
     assert_eq!(answer == Err(Refusal::Store), !sound(&changed));
+    assert_eq!(place::test(&changed), if sound(&changed) { Ok(()) } else { Err(Refusal::Store) });
     sound(&changed)
 }
 

@@ -7,16 +7,18 @@ use runs::calls::*;
 use runs::floors::{answers, floors};
 use runs::guarded::Guarded;
 use runs::numbers;
-use second::blocks::BLOCK_BYTES;
+use second::blocks::{block7_legal, BLOCK_BYTES};
 use second::config_stories::any_block7;
+use second::data;
 use second::frame::Kind;
 use second::gen::Gen;
 use second::model::{DESKS, RECORD};
 use second::place::{self, REPLY_BUFFER};
 use second::random::Random;
-use second::sides::{any_desk, any_octet, any_reply, any_request, interesting, zeros};
+use second::sides::{any_data, any_desk, any_octet, any_place, any_records, any_reply, any_request, interesting, zeros};
 use second::store::{load, SIZE};
 use second::tally::Tally;
+use std::hint::black_box;
 
 /// A store and the generator of all that happens to it, which so knows the passwords and what each desk holds.
 struct History {
@@ -57,14 +59,16 @@ impl Hostile {
     }
 
     fn turn(&mut self) {
-        match self.gen.random.below(16) {
+        match self.gen.random.below(18) {
             0..5 => self.history(),
             5..9 => self.any_store(),
             9 => self.wide_sighting(),
             10 => self.fresh(),
             11 | 12 => self.maker(),
             13 | 14 => self.reader(),
-            _ => self.line_writer(),
+            15 => self.line_writer(),
+            16 => self.test(),
+            _ => self.teller(),
         }
     }
 
@@ -147,16 +151,27 @@ impl Hostile {
         self.tally.count(&format!("fresh: {}", outcome(code)));
     }
 
+    /// The test alone, of a store that a history left, or of a damaged one. It writes nothing.
+    fn test(&mut self) {
+        let random = &self.gen.random;
+        let store = match random.below(3) {
+            0 => self.long.store.clone(),
+            _ => damaged(random, &self.tried.store),
+        };
+        let mut mine = Guarded::new(&store);
+        let code = depot::raw::test(mine.inner());
+        // the compiler may not take it for granted that a lent `&[u8]` is unchanged
+        assert!(black_box(mine).taken("store") == store, "the test wrote to the store");
+        assert_eq!(code, done_code(place::test(&store)), "test of {} octets", store.len());
+        self.tally.count(&format!("test: {}", outcome(code)));
+    }
+
     fn maker(&mut self) {
         let request = any_request(&mut self.gen);
         let random = &self.gen.random;
         let q = Asked::of(random, random.pick(&Kind::BOTH), any_desk(random), &request).beyond(random);
         let out = random.octets(random.below(40));
-        let mut wanted = out.clone();
-        let code = q.made(&mut wanted);
-        let mut mine = Guarded::new(&out);
-        assert_eq!(depot::raw::make(q.raw(), mine.inner()), code, "make {q:?}");
-        assert!(mine.taken("output") == wanted, "make {q:?}: the output differs");
+        let code = both(("make", &q), &out, |out| q.made(out), |out| depot::raw::make(q.raw(), out));
         self.tally.count(&format!("make: {}{}", outcome(code), no_request(&q)));
     }
 
@@ -175,26 +190,88 @@ impl Hostile {
         let block = any_block7(&mut self.gen).to_vec();
         let random = &self.gen.random;
         let block = resized(random, block);
-        let record = resized(random, random.octets(RECORD));
-        let sent = random.octets(random.pick(&[0, 1, 2, 14, 15, 28, 29, 41, 249, 834, 835, 1000]));
-        let one = random.one_in(2);
         let room = random.pick(&[40, 120, 120, 2100]);
-        let out = random.octets(random.below(room));
-        let (mut wanted, mut mine) = (out.clone(), Guarded::new(&out));
-        let (code, answer) = match one {
-            true => (asked::line(&block, &record, &mut wanted), depot::raw::line(&block, &record, mine.inner())),
-            false => (asked::lines(&block, &sent, &mut wanted), depot::raw::lines(&block, &sent, mine.inner())),
-        };
-        assert_eq!(answer, code, "lines {block:02X?} {record:02X?} {sent:02X?}");
-        assert!(mine.taken("output") == wanted, "lines {block:02X?} {record:02X?} {sent:02X?}: the output differs");
-        let why = match (block.len(), record.len()) {
-            (BLOCK_BYTES, RECORD) => "",
-            (BLOCK_BYTES, _) if one => ", a record of another length",
-            (BLOCK_BYTES, _) => "",
-            _ => ", a block of another length",
-        };
-        self.tally.count(&format!("{}: {}{why}", if one { "line" } else { "lines" }, outcome(code)));
+        let out = random.octets(random.pick(&[random.below(room), room]));
+        self.tally.count(&match random.one_in(2) {
+            true => one_line(random, &block, &out),
+            false => many_lines(random, &block, &out),
+        });
     }
+
+    fn teller(&mut self) {
+        let random = &self.gen.random;
+        self.tally.count(&match random.below(8) {
+            0 => block_told(random),
+            1 => timer_told(random),
+            2 => sizes_told(random),
+            _ => record_told(random),
+        });
+    }
+}
+
+fn one_line(random: &Random, block: &[u8], out: &[u8]) -> String {
+    let record = resized(random, random.octets(RECORD));
+    let library = |out: &mut [u8]| depot::raw::line(block, &record, out);
+    let code = both(("line", block, &record), out, |out| asked::line(block, &record, out), library);
+    let why = match (block.len(), record.len()) {
+        (BLOCK_BYTES, RECORD) => "",
+        (BLOCK_BYTES, _) => ", a record of another length",
+        _ => ", a block of another length",
+    };
+    format!("line: {}{why}", outcome(code))
+}
+
+fn many_lines(random: &Random, block: &[u8], out: &[u8]) -> String {
+    let sent = any_records(random);
+    let library = |out: &mut [u8]| depot::raw::lines(block, &sent, out);
+    let code = both(("lines", block, &sent), out, |out| asked::lines(block, &sent, out), library);
+    let why = match <&[u8; BLOCK_BYTES]>::try_from(block) {
+        Err(_) => ", a block of another length",
+        Ok(block) if block7_legal(block) && !data::carried(&sent) => NO_REPLY,
+        Ok(block) if block7_legal(block) && sent.is_empty() => ", no data",
+        Ok(_) => "",
+    };
+    format!("lines: {}{why}", outcome(code))
+}
+
+fn block_told(random: &Random) -> String {
+    let (sent, out) = (any_data(random, BLOCK_BYTES), random.octets(any_room(random, BLOCK_BYTES)));
+    let library = |out: &mut [u8]| depot::raw::block(&sent, out);
+    let code = both(("block", &sent), &out, |out| octets_code(data::block(&sent, out)), library);
+    format!("block: {}", outcome(code))
+}
+
+fn timer_told(random: &Random) -> String {
+    let (sent, out) = (any_data(random, 4), any_numbers(random, 3));
+    let library = |out: &mut [u64]| depot::raw::timer(&sent, out);
+    let code = both(("timer", &sent), &out, |out| octets_code(data::timer(&sent, out)), library);
+    format!("timer: {}", outcome(code))
+}
+
+fn sizes_told(random: &Random) -> String {
+    let (sent, out) = (any_data(random, 6), any_numbers(random, 3));
+    let library = |out: &mut [u64]| depot::raw::sizes(&sent, out);
+    let code = both(("sizes", &sent), &out, |out| octets_code(data::sizes(&sent, out)), library);
+    format!("sizes: {}", outcome(code))
+}
+
+fn record_told(random: &Random) -> String {
+    let (sent, i, out) = (any_records(random), any_place(random), any_numbers(random, 5));
+    let library = |out: &mut [u64]| depot::raw::record(&sent, i, out);
+    let code = both(("record", i, &sent), &out, |out| octets_code(data::record(&sent, i, out)), library);
+    let why = if data::carried(&sent) { "" } else { NO_REPLY };
+    format!("record: {}{why}", outcome(code))
+}
+
+const NO_REPLY: &str = ", data that no reply carries";
+
+/// An output for so many, or for fewer or more.
+fn any_room(random: &Random, fields: usize) -> usize {
+    random.pick(&[0, fields - 1, fields, fields, fields + 1, 100])
+}
+
+fn any_numbers(random: &Random, fields: usize) -> Vec<u64> {
+    (0..any_room(random, fields)).map(|_| random.next()).collect()
 }
 
 /// Now and then of another length; the octets that stay are the same.

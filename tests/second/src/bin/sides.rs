@@ -1,4 +1,5 @@
-//! `sides SEED COUNT` prints COUNT random calls of store, host and line writer.
+//! `sides SEED COUNT` prints COUNT random calls of store, host, what data
+//! say, and line writer.
 
 use second::sides::Sides;
 use std::io::{self, Write};
