@@ -39,11 +39,18 @@ pub fn fresh(store: &mut [u8]) -> Answer
     Answer::Done
 }
 
+// A store that is not sound is refused before any other test.
+fn fit(store: &[u8]) -> bool
+    ensures { λ r. ⌜ r ≡ sound (now (store .entry)) ⌝ }
+{
+    soundness::test(store)
+}
+
 // Whether a store is sound: one that was kept in a file, say. It only reads.
 pub fn test(store: &[u8]) -> Answer
     ensures { λ r. ⌜ Tested (now (store .entry)) r ⌝ }
 {
-    if soundness::test(store) {
+    if fit(store) {
         return Answer::Done;
     }
     Answer::Refused(Refusal::Unsound)
@@ -64,7 +71,7 @@ fn served(store: &mut [u8], frame: &[u8], f: Frame, out: &mut [u8]) -> Answer
 pub fn frame(store: &mut [u8], frame: &[u8], out: &mut [u8]) -> Answer
     ensures { λ r. ⌜ Called (Event.frame (now (frame .entry)) (length (now (out .entry)))) (now (store .entry)) (now (out .entry)) r (now (store .exit)) (now (out .exit)) ⌝ }
 {
-    if !soundness::test(store) {
+    if !fit(store) {
         return Answer::Refused(Refusal::Unsound);
     }
     if out.len() < Advanced::LONGEST {
@@ -80,7 +87,7 @@ pub fn frame(store: &mut [u8], frame: &[u8], out: &mut [u8]) -> Answer
 pub fn sighting(store: &mut [u8], desk: u64, uid: u64, mask: u8) -> Answer
     ensures { λ r. ⌜ Called (Event.sighting desk uid mask) (now (store .entry)) [] r (now (store .exit)) [] ⌝ }
 {
-    if !soundness::test(store) {
+    if !fit(store) {
         return Answer::Refused(Refusal::Unsound);
     }
     if no_desk(desk) {
@@ -96,7 +103,7 @@ pub fn sighting(store: &mut [u8], desk: u64, uid: u64, mask: u8) -> Answer
 pub fn tick(store: &mut [u8]) -> Answer
     ensures { λ r. ⌜ Called Event.tick (now (store .entry)) [] r (now (store .exit)) [] ⌝ }
 {
-    if !soundness::test(store) {
+    if !fit(store) {
         return Answer::Refused(Refusal::Unsound);
     }
     sightings::tick(store);

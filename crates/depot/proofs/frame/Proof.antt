@@ -18,7 +18,7 @@ use Rattle.depot.proofs.frame.Tie as tie
 
 -- the store's test passed
 good : (c : tie.Else1) → sound (c .before .before .before .before .before .before .args .store .now) ≡ true
-good c = passed (c .before .test .ensures) (c .if1 .left)
+good c = passed (c .before .fit .ensures) (c .if1 .left)
 
 -- and so did that of the room, or it did not
 small : (c : tie.Then2) → length (c .before .before .before .before .before .before .before .args .out .now) < replyRoom
@@ -52,6 +52,6 @@ returns-3 c =
 pub frame-spec : {M : Type 1} → statement M
 frame-spec =
     tie.close
-    (tie.spec (λ c κs. search needs) (λ c. search needs) (λ c. unsound _ _ _ (failed (c .before .test .ensures) (c .if1 .taken)))
+    (tie.spec (λ c κs. search needs) (λ c. search needs) (λ c. unsound _ _ _ (failed (c .before .fit .ensures) (c .if1 .taken)))
     (λ c. search needs) returns-2 (λ c κs. search needs) (λ c. search needs) (λ c. search needs) served-requires
     (λ c. search needs) returns-3 (λ c. search needs) (λ c. search needs) (λ c. search needs))

@@ -15,7 +15,7 @@ use Rattle.depot.proofs.sighting.Tie as tie
 
 -- the store's test passed, and the desk is there
 good : (c : tie.Else1) → sound (c .before .before .before .before .args .store .now) ≡ true
-good c = passed (c .before .test .ensures) (c .if1 .left)
+good c = passed (c .before .fit .ensures) (c .if1 .left)
 
 low : (c : tie.Else2) → c .before .before .before .before .before .before .args .desk < desks
 low c = leb-false _ _ (sym (c .before .no-desk .ensures) ∙ c .if2 .left)
@@ -44,6 +44,6 @@ returns-4 c =
 pub sighting-spec : {M : Type 1} → statement M
 sighting-spec =
     tie.close
-    (tie.spec (λ c κs. search needs) (λ c. search needs) (λ c. unsound _ _ _ (failed (c .before .test .ensures) (c .if1 .taken)))
+    (tie.spec (λ c κs. search needs) (λ c. search needs) (λ c. unsound _ _ _ (failed (c .before .fit .ensures) (c .if1 .taken)))
     (λ c κs. search needs) (λ c. search needs) returns-2 (λ c. search needs) returns-3
     (λ c κs. let l = c .before .before in (good (l .before .before), low l)) (λ c. search needs) returns-4)

@@ -11,11 +11,11 @@ use Rattle.depot.proofs.test.Tie as tie
 
 returns : tie.Need-returns
 unfolding first testRefusals
-returns c = record { tested = rw (sym (c .before .test .ensures) ∙ c .if1 .taken) refl }
+returns c = record { tested = rw (sym (c .before .fit .ensures) ∙ c .if1 .taken) refl }
 
 returns-2 : tie.Need-returns-2
 unfolding first testRefusals
-returns-2 c = record { tested = rw (sym (c .before .test .ensures) ∙ c .if1 .left) (refuses Refused Unsound) }
+returns-2 c = record { tested = rw (sym (c .before .fit .ensures) ∙ c .if1 .left) (refuses Refused Unsound) }
 
 pub test-spec : {M : Type 1} → statement M
 test-spec = tie.close (tie.spec (λ c κs. search needs) returns returns-2)

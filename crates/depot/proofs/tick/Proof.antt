@@ -12,10 +12,10 @@ same-length : tie.Need-same-length
 same-length c = search needs
 
 returns : tie.Need-returns
-returns c = unsound _ _ _ (failed (c .before .test .ensures) (c .if1 .taken))
+returns c = unsound _ _ _ (failed (c .before .fit .ensures) (c .if1 .taken))
 
 tick-requires : tie.Need-tick-requires
-tick-requires c κs = passed (c .before .before .test .ensures) (c .before .if1 .left)
+tick-requires c κs = passed (c .before .before .fit .ensures) (c .before .if1 .left)
 
 same-length-2 : tie.Need-same-length-2
 same-length-2 c = search needs
@@ -24,7 +24,7 @@ returns-2 : tie.Need-returns-2
 returns-2 c =
     let t = c .before .before in
     let e = t .before .before in
-    ticked-answered _ _ _ (passed (e .before .test .ensures) (e .if1 .left)) (t .tick .ensures)
+    ticked-answered _ _ _ (passed (e .before .fit .ensures) (e .if1 .left)) (t .tick .ensures)
 
 pub tick-spec : {M : Type 1} → statement M
 tick-spec = tie.close (tie.spec test-requires same-length returns tick-requires same-length-2 returns-2)
