@@ -29,7 +29,7 @@ impl Sides {
     }
 
     pub fn next_line(&mut self) -> String {
-        match self.gen.random.below(64) {
+        match self.gen.random.below(72) {
             0..8 => self.maker(),
             8..24 => self.reader(),
             24..32 => self.line_writer(),
@@ -54,6 +54,9 @@ impl Sides {
     fn damaged(&mut self) -> String {
         let random = &self.gen.random;
         let mut store = self.store.clone();
+        if random.one_in(4) {
+            lock_twice(random, &mut store);
+        }
         let at = interesting(random, &store);
         store[at] = any_octet(random, store[at]);
         if random.one_in(3) {
@@ -183,6 +186,13 @@ pub fn interesting(random: &Random, store: &[u8]) -> usize {
         3 => row + block7,
         _ => row + random.pick(&fields),
     }
+}
+
+/// The second lock of some desk gets the UID of the first. Where fewer than two
+/// stand, the store stays sound.
+pub fn lock_twice(random: &Random, store: &mut [u8]) {
+    let first = rows_at(store) + random.below(8) * ROW + LOCK_LIST;
+    store.copy_within(first..first + 8, first + LOCK);
 }
 
 /// A store of zeros, so that it is sound wherever its areas lie; they lie at

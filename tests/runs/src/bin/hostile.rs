@@ -15,7 +15,7 @@ use second::gen::Gen;
 use second::model::{DESKS, RECORD};
 use second::place::{self, REPLY_BUFFER};
 use second::random::Random;
-use second::sides::{any_data, any_desk, any_octet, any_place, any_records, any_reply, any_request, interesting, zeros};
+use second::sides::{any_data, any_desk, any_octet, any_place, any_records, any_reply, any_request, interesting, lock_twice, zeros};
 use second::store::{load, SIZE};
 use second::tally::Tally;
 use std::hint::black_box;
@@ -289,6 +289,9 @@ fn damaged(random: &Random, sound: &[u8]) -> Vec<u8> {
         1 => random.octets(SIZE),
         _ => sound.to_vec(),
     };
+    if load(&store).is_some() && random.one_in(8) {
+        lock_twice(random, &mut store);
+    }
     for _ in 0..random.pick(&[0, 0, 1, 2]) {
         let at = interesting(random, &store).min(SIZE - 1);
         store[at] = any_octet(random, store[at]);
