@@ -6,7 +6,7 @@ use second::situations::statuses;
 
 /// `(calls, call, outcomes)`: each outcome of that call is met at least once in so many calls. A run of fewer calls than that is
 /// not asked for it, so that a short run, as under valgrind, is asked for the frequent ones alone. The numbers leave room for
-/// chance: in sixty runs of 100000 calls the least count was more than twice the floor.
+/// chance: in sixty runs of 100000 calls the least count was at least twice the floor.
 const FLOORS: [(u64, &str, &[&str]); 36] = [
     (500, "history", &["0x80 answers 0x00", "0x81 answers 0x00", "0x22 answers 0x00", "done", "recorded"]),
     (1000, "history", &["0xA0 answers 0x00", "ignored"]),
