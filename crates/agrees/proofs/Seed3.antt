@@ -8,566 +8,197 @@ use Rattle.rules.proofs.Computed.{computed}
 
 unfoldable pub events : List Event
 events =
-    frame (9 ∷ 1 ∷ 160 ∷ 0 ∷ 0 ∷ 0 ∷ 2 ∷ 75 ∷ 255 ∷ []) 0 ∷
-    frame (9 ∷ 1 ∷ 160 ∷ 0 ∷ 0 ∷ 0 ∷ 2 ∷ 75 ∷ 255 ∷ []) replyRoom ∷
-    frame (6 ∷ 1 ∷ 128 ∷ 140 ∷ 207 ∷ 208 ∷ []) 1000 ∷
-    frame (9 ∷ 1 ∷ 160 ∷ 0 ∷ 0 ∷ 0 ∷ 0 ∷ 89 ∷ 220 ∷ []) replyRoom ∷
-    frame (6 ∷ 1 ∷ 128 ∷ 0 ∷ 171 ∷ 158 ∷ []) replyRoom ∷
-    frame (2 ∷ 0 ∷ 11 ∷ 3 ∷ 160 ∷ 0 ∷ 0 ∷ 0 ∷ 0 ∷ 217 ∷ 69 ∷ []) replyRoom ∷
+    frame (9 ∷ 1 ∷ 160 ∷ 0 ∷ 0 ∷ 0 ∷ 2 ∷ 75 ∷ 255 ∷ []) 0 ∷ frame (9 ∷ 1 ∷ 160 ∷ 0 ∷ 0 ∷ 0 ∷ 2 ∷ 75 ∷ 255 ∷ []) replyRoom ∷
+    frame (6 ∷ 1 ∷ 128 ∷ 140 ∷ 207 ∷ 208 ∷ []) 1000 ∷ frame (9 ∷ 1 ∷ 160 ∷ 0 ∷ 0 ∷ 0 ∷ 0 ∷ 89 ∷ 220 ∷ []) replyRoom ∷
+    frame (6 ∷ 1 ∷ 128 ∷ 0 ∷ 171 ∷ 158 ∷ []) replyRoom ∷ frame (2 ∷ 0 ∷ 11 ∷ 3 ∷ 160 ∷ 0 ∷ 0 ∷ 0 ∷ 0 ∷ 217 ∷ 69 ∷ []) replyRoom ∷
     frame (2 ∷ 0 ∷ 22 ∷ 3 ∷ 129 ∷ 12 ∷ 0 ∷ 234 ∷ 230 ∷ 245 ∷ 168 ∷ 45 ∷ 50 ∷ 198 ∷ 147 ∷ 209 ∷ 148 ∷ 245 ∷ 212 ∷ 189 ∷ 104 ∷ 58 ∷ []) 1000 ∷
-    frame (6 ∷ 3 ∷ 130 ∷ 12 ∷ 207 ∷ 210 ∷ []) replyRoom ∷
-    frame (2 ∷ 0 ∷ 7 ∷ 3 ∷ 99 ∷ 240 ∷ 209 ∷ []) replyRoom ∷
-    frame (9 ∷ 3 ∷ 160 ∷ 0 ∷ 0 ∷ 0 ∷ 0 ∷ 15 ∷ 212 ∷ []) replyRoom ∷
-    frame (6 ∷ 3 ∷ 131 ∷ 140 ∷ 31 ∷ 79 ∷ []) replyRoom ∷
-    frame (6 ∷ 3 ∷ 128 ∷ 140 ∷ 119 ∷ 101 ∷ []) replyRoom ∷
-    frame (6 ∷ 3 ∷ 82 ∷ 0 ∷ 152 ∷ 71 ∷ []) replyRoom ∷
-    sighting 4 0xE006000001645E37 255 ∷
-    frame (9 ∷ 4 ∷ 133 ∷ 23 ∷ 59 ∷ 0 ∷ 0 ∷ 147 ∷ 181 ∷ []) replyRoom ∷
-    frame (5 ∷ 4 ∷ 100 ∷ 204 ∷ 66 ∷ []) 0 ∷
-    frame (5 ∷ 4 ∷ 100 ∷ 204 ∷ 66 ∷ []) 1000 ∷
-    frame (5 ∷ 4 ∷ 49 ∷ 228 ∷ 71 ∷ []) replyRoom ∷
-    frame (2 ∷ 0 ∷ 7 ∷ 4 ∷ 134 ∷ 91 ∷ 44 ∷ []) replyRoom ∷
-    frame (2 ∷ 0 ∷ 9 ∷ 4 ∷ 34 ∷ 0 ∷ 1 ∷ 182 ∷ 192 ∷ []) replyRoom ∷
-    sighting 6 0xE007010001645E37 0 ∷
-    sighting 6 0xE007010001645E37 128 ∷
-    sighting 6 0xE007010001645E37 128 ∷
-    tick ∷
-    frame (2 ∷ 0 ∷ 7 ∷ 7 ∷ 51 ∷ 21 ∷ []) replyRoom ∷
-    frame (2 ∷ 0 ∷ 7 ∷ 7 ∷ 51 ∷ 21 ∷ 230 ∷ []) replyRoom ∷
-    frame (5 ∷ 8 ∷ 51 ∷ 86 ∷ 205 ∷ []) 1000 ∷
-    frame (2 ∷ 0 ∷ 7 ∷ 7 ∷ 52 ∷ 170 ∷ 144 ∷ []) replyRoom ∷
-    frame (2 ∷ 0 ∷ 8 ∷ 7 ∷ 134 ∷ 0 ∷ 231 ∷ 177 ∷ []) replyRoom ∷
-    frame (6 ∷ 7 ∷ 82 ∷ 1 ∷ 112 ∷ 53 ∷ []) replyRoom ∷
-    sighting 7 0xE007000101645E37 2 ∷
-    sighting 7 0xE007000000645E37 63 ∷
-    sighting 7 0xE007000001655E37 63 ∷
-    sighting 7 0xE007000001645F37 63 ∷
-    sighting 7 0xE007000001645E36 63 ∷
-    sighting 7 0xE207000001645E37 255 ∷
-    sighting 7 0xE005000001645E37 255 ∷
-    sighting 7 0xE007020001645E37 63 ∷
-    sighting 7 0xE007000201645E37 128 ∷
-    sighting 7 0xE007000003645E37 2 ∷
-    sighting 7 0xE007000001665E37 63 ∷
-    sighting 7 0xE007000001645C37 63 ∷
-    sighting 7 0xE007000001645E35 128 ∷
-    sighting 7 0xE307000001645E37 2 ∷
-    sighting 7 0xE004000001645E37 2 ∷
-    sighting 7 0xE007030001645E37 1 ∷
-    sighting 7 0xE007000301645E37 128 ∷
-    sighting 7 0xE007000002645E37 255 ∷
-    sighting 7 0xE007000001675E37 1 ∷
-    sighting 7 0xE007000001645D37 1 ∷
-    sighting 7 0xE007000001645E34 128 ∷
-    sighting 7 0xE407000001645E37 2 ∷
-    sighting 7 0xE003000001645E37 1 ∷
-    sighting 7 0xE007040001645E37 255 ∷
-    sighting 7 0xE007000401645E37 1 ∷
-    sighting 7 0xE007000005645E37 2 ∷
-    sighting 7 0xE007000001605E37 2 ∷
-    sighting 7 0xE007000001645A37 1 ∷
-    sighting 7 0xE007000001645E33 128 ∷
-    sighting 7 0xE507000001645E37 255 ∷
-    sighting 7 0xE002000001645E37 128 ∷
-    sighting 7 0xE007050001645E37 2 ∷
-    sighting 7 0xE007000501645E37 255 ∷
-    sighting 7 0xE007000004645E37 2 ∷
-    sighting 7 0xE007000001615E37 128 ∷
-    sighting 7 0xE007000001645B37 255 ∷
-    sighting 7 0xE007000001645E32 63 ∷
-    sighting 7 0xE607000001645E37 255 ∷
-    sighting 7 0xE001000001645E37 255 ∷
-    sighting 7 0xE007060001645E37 63 ∷
-    sighting 7 0xE007000601645E37 63 ∷
-    sighting 7 0xE007000007645E37 128 ∷
-    sighting 7 0xE007000001625E37 128 ∷
-    sighting 7 0xE007000001645837 255 ∷
-    sighting 7 0xE007000001645E31 255 ∷
-    sighting 7 0xE707000001645E37 63 ∷
-    sighting 7 0xE000000001645E37 128 ∷
-    sighting 7 0xE007070001645E37 1 ∷
-    sighting 7 0xE007000701645E37 2 ∷
-    sighting 7 0xE007000006645E37 2 ∷
-    sighting 7 0xE007000001635E37 63 ∷
-    sighting 7 0xE007000001645937 1 ∷
-    sighting 7 0xE007000001645E30 255 ∷
-    sighting 7 0xE807000001645E37 2 ∷
-    sighting 7 0xE00F000001645E37 1 ∷
-    sighting 7 0xE007080001645E37 2 ∷
-    sighting 7 0xE007000801645E37 128 ∷
-    sighting 7 0xE007000009645E37 2 ∷
-    sighting 7 0xE0070000016C5E37 2 ∷
-    sighting 7 0xE007000001645637 128 ∷
-    sighting 7 0xE007000001645E3F 255 ∷
-    sighting 7 0xE907000001645E37 128 ∷
-    sighting 7 0xE00E000001645E37 2 ∷
-    sighting 7 0xE007090001645E37 128 ∷
-    sighting 7 0xE007000901645E37 255 ∷
-    frame (7 ∷ 7 ∷ 34 ∷ 0 ∷ 64 ∷ 242 ∷ 163 ∷ []) replyRoom ∷
-    frame (2 ∷ 0 ∷ 7 ∷ 7 ∷ 50 ∷ 156 ∷ 245 ∷ []) replyRoom ∷
-    frame (7 ∷ 7 ∷ 34 ∷ 0 ∷ 64 ∷ 242 ∷ 163 ∷ []) replyRoom ∷
-    frame (7 ∷ 7 ∷ 34 ∷ 0 ∷ 1 ∷ 127 ∷ 240 ∷ []) replyRoom ∷
-    frame (2 ∷ 0 ∷ 7 ∷ 7 ∷ 51 ∷ 21 ∷ 228 ∷ []) replyRoom ∷
+    frame (6 ∷ 3 ∷ 130 ∷ 12 ∷ 207 ∷ 210 ∷ []) replyRoom ∷ frame (2 ∷ 0 ∷ 7 ∷ 3 ∷ 99 ∷ 240 ∷ 209 ∷ []) replyRoom ∷
+    frame (9 ∷ 3 ∷ 160 ∷ 0 ∷ 0 ∷ 0 ∷ 0 ∷ 15 ∷ 212 ∷ []) replyRoom ∷ frame (6 ∷ 3 ∷ 131 ∷ 140 ∷ 31 ∷ 79 ∷ []) replyRoom ∷
+    frame (6 ∷ 3 ∷ 128 ∷ 140 ∷ 119 ∷ 101 ∷ []) replyRoom ∷ frame (6 ∷ 3 ∷ 82 ∷ 0 ∷ 152 ∷ 71 ∷ []) replyRoom ∷
+    sighting 4 0xE006000001645E37 255 ∷ frame (9 ∷ 4 ∷ 133 ∷ 23 ∷ 59 ∷ 0 ∷ 0 ∷ 147 ∷ 181 ∷ []) replyRoom ∷
+    frame (5 ∷ 4 ∷ 100 ∷ 204 ∷ 66 ∷ []) 0 ∷ frame (5 ∷ 4 ∷ 100 ∷ 204 ∷ 66 ∷ []) 1000 ∷ frame (5 ∷ 4 ∷ 49 ∷ 228 ∷ 71 ∷ []) replyRoom ∷
+    frame (2 ∷ 0 ∷ 7 ∷ 4 ∷ 134 ∷ 91 ∷ 44 ∷ []) replyRoom ∷ frame (2 ∷ 0 ∷ 9 ∷ 4 ∷ 34 ∷ 0 ∷ 1 ∷ 182 ∷ 192 ∷ []) replyRoom ∷
+    sighting 6 0xE007010001645E37 0 ∷ sighting 6 0xE007010001645E37 128 ∷ sighting 6 0xE007010001645E37 128 ∷ tick ∷
+    frame (2 ∷ 0 ∷ 7 ∷ 7 ∷ 51 ∷ 21 ∷ []) replyRoom ∷ frame (2 ∷ 0 ∷ 7 ∷ 7 ∷ 51 ∷ 21 ∷ 230 ∷ []) replyRoom ∷
+    frame (5 ∷ 8 ∷ 51 ∷ 86 ∷ 205 ∷ []) 1000 ∷ frame (2 ∷ 0 ∷ 7 ∷ 7 ∷ 52 ∷ 170 ∷ 144 ∷ []) replyRoom ∷
+    frame (2 ∷ 0 ∷ 8 ∷ 7 ∷ 134 ∷ 0 ∷ 231 ∷ 177 ∷ []) replyRoom ∷ frame (6 ∷ 7 ∷ 82 ∷ 1 ∷ 112 ∷ 53 ∷ []) replyRoom ∷
+    sighting 7 0xE007000101645E37 2 ∷ sighting 7 0xE007000000645E37 63 ∷ sighting 7 0xE007000001655E37 63 ∷
+    sighting 7 0xE007000001645F37 63 ∷ sighting 7 0xE007000001645E36 63 ∷ sighting 7 0xE207000001645E37 255 ∷
+    sighting 7 0xE005000001645E37 255 ∷ sighting 7 0xE007020001645E37 63 ∷ sighting 7 0xE007000201645E37 128 ∷
+    sighting 7 0xE007000003645E37 2 ∷ sighting 7 0xE007000001665E37 63 ∷ sighting 7 0xE007000001645C37 63 ∷
+    sighting 7 0xE007000001645E35 128 ∷ sighting 7 0xE307000001645E37 2 ∷ sighting 7 0xE004000001645E37 2 ∷
+    sighting 7 0xE007030001645E37 1 ∷ sighting 7 0xE007000301645E37 128 ∷ sighting 7 0xE007000002645E37 255 ∷
+    sighting 7 0xE007000001675E37 1 ∷ sighting 7 0xE007000001645D37 1 ∷ sighting 7 0xE007000001645E34 128 ∷
+    sighting 7 0xE407000001645E37 2 ∷ sighting 7 0xE003000001645E37 1 ∷ sighting 7 0xE007040001645E37 255 ∷
+    sighting 7 0xE007000401645E37 1 ∷ sighting 7 0xE007000005645E37 2 ∷ sighting 7 0xE007000001605E37 2 ∷
+    sighting 7 0xE007000001645A37 1 ∷ sighting 7 0xE007000001645E33 128 ∷ sighting 7 0xE507000001645E37 255 ∷
+    sighting 7 0xE002000001645E37 128 ∷ sighting 7 0xE007050001645E37 2 ∷ sighting 7 0xE007000501645E37 255 ∷
+    sighting 7 0xE007000004645E37 2 ∷ sighting 7 0xE007000001615E37 128 ∷ sighting 7 0xE007000001645B37 255 ∷
+    sighting 7 0xE007000001645E32 63 ∷ sighting 7 0xE607000001645E37 255 ∷ sighting 7 0xE001000001645E37 255 ∷
+    sighting 7 0xE007060001645E37 63 ∷ sighting 7 0xE007000601645E37 63 ∷ sighting 7 0xE007000007645E37 128 ∷
+    sighting 7 0xE007000001625E37 128 ∷ sighting 7 0xE007000001645837 255 ∷ sighting 7 0xE007000001645E31 255 ∷
+    sighting 7 0xE707000001645E37 63 ∷ sighting 7 0xE000000001645E37 128 ∷ sighting 7 0xE007070001645E37 1 ∷
+    sighting 7 0xE007000701645E37 2 ∷ sighting 7 0xE007000006645E37 2 ∷ sighting 7 0xE007000001635E37 63 ∷
+    sighting 7 0xE007000001645937 1 ∷ sighting 7 0xE007000001645E30 255 ∷ sighting 7 0xE807000001645E37 2 ∷
+    sighting 7 0xE00F000001645E37 1 ∷ sighting 7 0xE007080001645E37 2 ∷ sighting 7 0xE007000801645E37 128 ∷
+    sighting 7 0xE007000009645E37 2 ∷ sighting 7 0xE0070000016C5E37 2 ∷ sighting 7 0xE007000001645637 128 ∷
+    sighting 7 0xE007000001645E3F 255 ∷ sighting 7 0xE907000001645E37 128 ∷ sighting 7 0xE00E000001645E37 2 ∷
+    sighting 7 0xE007090001645E37 128 ∷ sighting 7 0xE007000901645E37 255 ∷ frame (7 ∷ 7 ∷ 34 ∷ 0 ∷ 64 ∷ 242 ∷ 163 ∷ []) replyRoom ∷
+    frame (2 ∷ 0 ∷ 7 ∷ 7 ∷ 50 ∷ 156 ∷ 245 ∷ []) replyRoom ∷ frame (7 ∷ 7 ∷ 34 ∷ 0 ∷ 64 ∷ 242 ∷ 163 ∷ []) replyRoom ∷
+    frame (7 ∷ 7 ∷ 34 ∷ 0 ∷ 1 ∷ 127 ∷ 240 ∷ []) replyRoom ∷ frame (2 ∷ 0 ∷ 7 ∷ 7 ∷ 51 ∷ 21 ∷ 228 ∷ []) replyRoom ∷
     frame (2 ∷ 0 ∷ 11 ∷ 7 ∷ 160 ∷ 0 ∷ 0 ∷ 0 ∷ 0 ∷ 117 ∷ 85 ∷ []) 1000 ∷
     frame (20 ∷ 7 ∷ 129 ∷ 12 ∷ 0 ∷ 123 ∷ 27 ∷ 96 ∷ 174 ∷ 60 ∷ 110 ∷ 54 ∷ 63 ∷ 128 ∷ 116 ∷ 85 ∷ 178 ∷ 8 ∷ 86 ∷ 174 ∷ []) replyRoom ∷
-    frame (2 ∷ 0 ∷ 8 ∷ 7 ∷ 130 ∷ 12 ∷ 235 ∷ 28 ∷ []) 0 ∷
-    frame (2 ∷ 0 ∷ 8 ∷ 7 ∷ 130 ∷ 12 ∷ 235 ∷ 28 ∷ []) replyRoom ∷
-    frame (2 ∷ 0 ∷ 7 ∷ 7 ∷ 99 ∷ 144 ∷ 182 ∷ []) 1000 ∷
-    frame (2 ∷ 0 ∷ 11 ∷ 7 ∷ 160 ∷ 0 ∷ 0 ∷ 0 ∷ 0 ∷ 117 ∷ 85 ∷ []) 1000 ∷
-    frame (6 ∷ 7 ∷ 131 ∷ 140 ∷ 126 ∷ 44 ∷ []) 841 ∷
-    frame (6 ∷ 7 ∷ 131 ∷ 140 ∷ 126 ∷ 44 ∷ []) replyRoom ∷
-    frame (6 ∷ 7 ∷ 128 ∷ 140 ∷ 22 ∷ 6 ∷ []) 1000 ∷
-    frame (6 ∷ 7 ∷ 82 ∷ 0 ∷ 249 ∷ 36 ∷ []) replyRoom ∷
-    frame (9 ∷ 0 ∷ 160 ∷ 0 ∷ 0 ∷ 0 ∷ 16 ∷ 243 ∷ 200 ∷ []) replyRoom ∷
-    frame (6 ∷ 0 ∷ 128 ∷ 140 ∷ 19 ∷ 138 ∷ []) replyRoom ∷
-    frame (9 ∷ 0 ∷ 160 ∷ 0 ∷ 0 ∷ 0 ∷ 0 ∷ 114 ∷ 216 ∷ []) 1000 ∷
-    frame (2 ∷ 0 ∷ 8 ∷ 0 ∷ 128 ∷ 0 ∷ 50 ∷ 105 ∷ []) 1000 ∷
-    frame (2 ∷ 0 ∷ 7 ∷ 2 ∷ 49 ∷ 191 ∷ 185 ∷ []) 0 ∷
-    frame (2 ∷ 0 ∷ 7 ∷ 2 ∷ 49 ∷ 191 ∷ 185 ∷ []) replyRoom ∷
-    frame (2 ∷ 0 ∷ 7 ∷ 1 ∷ 134 ∷ 227 ∷ 82 ∷ []) replyRoom ∷
-    frame (2 ∷ 0 ∷ 7 ∷ 6 ∷ 134 ∷ 235 ∷ 31 ∷ []) replyRoom ∷
+    frame (2 ∷ 0 ∷ 8 ∷ 7 ∷ 130 ∷ 12 ∷ 235 ∷ 28 ∷ []) 0 ∷ frame (2 ∷ 0 ∷ 8 ∷ 7 ∷ 130 ∷ 12 ∷ 235 ∷ 28 ∷ []) replyRoom ∷
+    frame (2 ∷ 0 ∷ 7 ∷ 7 ∷ 99 ∷ 144 ∷ 182 ∷ []) 1000 ∷ frame (2 ∷ 0 ∷ 11 ∷ 7 ∷ 160 ∷ 0 ∷ 0 ∷ 0 ∷ 0 ∷ 117 ∷ 85 ∷ []) 1000 ∷
+    frame (6 ∷ 7 ∷ 131 ∷ 140 ∷ 126 ∷ 44 ∷ []) 841 ∷ frame (6 ∷ 7 ∷ 131 ∷ 140 ∷ 126 ∷ 44 ∷ []) replyRoom ∷
+    frame (6 ∷ 7 ∷ 128 ∷ 140 ∷ 22 ∷ 6 ∷ []) 1000 ∷ frame (6 ∷ 7 ∷ 82 ∷ 0 ∷ 249 ∷ 36 ∷ []) replyRoom ∷
+    frame (9 ∷ 0 ∷ 160 ∷ 0 ∷ 0 ∷ 0 ∷ 16 ∷ 243 ∷ 200 ∷ []) replyRoom ∷ frame (6 ∷ 0 ∷ 128 ∷ 140 ∷ 19 ∷ 138 ∷ []) replyRoom ∷
+    frame (9 ∷ 0 ∷ 160 ∷ 0 ∷ 0 ∷ 0 ∷ 0 ∷ 114 ∷ 216 ∷ []) 1000 ∷ frame (2 ∷ 0 ∷ 8 ∷ 0 ∷ 128 ∷ 0 ∷ 50 ∷ 105 ∷ []) 1000 ∷
+    frame (2 ∷ 0 ∷ 7 ∷ 2 ∷ 49 ∷ 191 ∷ 185 ∷ []) 0 ∷ frame (2 ∷ 0 ∷ 7 ∷ 2 ∷ 49 ∷ 191 ∷ 185 ∷ []) replyRoom ∷
+    frame (2 ∷ 0 ∷ 7 ∷ 1 ∷ 134 ∷ 227 ∷ 82 ∷ []) replyRoom ∷ frame (2 ∷ 0 ∷ 7 ∷ 6 ∷ 134 ∷ 235 ∷ 31 ∷ []) replyRoom ∷
     frame (20 ∷ 1 ∷ 129 ∷ 140 ∷ 0 ∷ 55 ∷ 90 ∷ 47 ∷ 37 ∷ 183 ∷ 178 ∷ 125 ∷ 222 ∷ 91 ∷ 173 ∷ 83 ∷ 153 ∷ 232 ∷ 101 ∷ 206 ∷ []) replyRoom ∷
-    frame (5 ∷ 1 ∷ 99 ∷ 203 ∷ 72 ∷ []) replyRoom ∷
-    sighting 1 0xE007000008645E37 2 ∷
-    sighting 1 0xE007000008645E37 2 ∷
-    tick ∷
-    sighting 1 0xE0070000016D5E37 1 ∷
-    tick ∷
-    tick ∷
-    tick ∷
-    tick ∷
-    tick ∷
-    tick ∷
-    tick ∷
-    tick ∷
-    tick ∷
-    tick ∷
-    tick ∷
-    tick ∷
-    tick ∷
-    tick ∷
-    tick ∷
-    tick ∷
-    tick ∷
-    tick ∷
-    tick ∷
-    tick ∷
-    tick ∷
-    tick ∷
-    tick ∷
-    tick ∷
-    tick ∷
-    tick ∷
-    tick ∷
-    tick ∷
-    tick ∷
-    tick ∷
-    tick ∷
-    tick ∷
-    tick ∷
-    tick ∷
-    tick ∷
-    tick ∷
-    tick ∷
-    tick ∷
-    tick ∷
-    tick ∷
-    tick ∷
-    tick ∷
-    tick ∷
-    tick ∷
-    tick ∷
-    tick ∷
-    tick ∷
-    tick ∷
-    tick ∷
-    tick ∷
-    tick ∷
-    tick ∷
-    tick ∷
-    sighting 1 0xE007000008645E37 128 ∷
-    tick ∷
-    sighting 1 0xE0070000016D5E37 128 ∷
-    sighting 1 0xE007000008645E37 255 ∷
-    tick ∷
-    sighting 1 0xE0070000016D5E37 2 ∷
-    sighting 1 0xE007000008645E37 128 ∷
-    frame (5 ∷ 1 ∷ 49 ∷ 92 ∷ 57 ∷ []) replyRoom ∷
-    frame (2 ∷ 0 ∷ 7 ∷ 1 ∷ 134 ∷ 227 ∷ 82 ∷ []) replyRoom ∷
-    frame (2 ∷ 0 ∷ 9 ∷ 1 ∷ 34 ∷ 0 ∷ 20 ∷ 205 ∷ 233 ∷ []) replyRoom ∷
-    sighting 4 0xE007000001645737 1 ∷
-    frame (9 ∷ 4 ∷ 133 ∷ 23 ∷ 59 ∷ 0 ∷ 0 ∷ 147 ∷ 181 ∷ []) replyRoom ∷
-    frame (2 ∷ 0 ∷ 7 ∷ 4 ∷ 100 ∷ 71 ∷ 232 ∷ []) replyRoom ∷
-    frame (5 ∷ 4 ∷ 49 ∷ 228 ∷ 71 ∷ []) 1000 ∷
-    frame (5 ∷ 4 ∷ 134 ∷ 208 ∷ 134 ∷ []) replyRoom ∷
-    frame (7 ∷ 4 ∷ 34 ∷ 0 ∷ 1 ∷ 178 ∷ 213 ∷ []) 1000 ∷
-    sighting 3 0xE007000001645E3E 2 ∷
-    frame (2 ∷ 0 ∷ 11 ∷ 3 ∷ 133 ∷ 23 ∷ 59 ∷ 0 ∷ 0 ∷ 148 ∷ 56 ∷ []) 1000 ∷
-    frame (5 ∷ 3 ∷ 100 ∷ 196 ∷ 15 ∷ []) replyRoom ∷
-    frame (2 ∷ 0 ∷ 7 ∷ 3 ∷ 49 ∷ 103 ∷ 160 ∷ []) 1000 ∷
-    frame (2 ∷ 0 ∷ 7 ∷ 3 ∷ 134 ∷ 83 ∷ 97 ∷ []) replyRoom ∷
-    frame (2 ∷ 0 ∷ 9 ∷ 3 ∷ 34 ∷ 0 ∷ 1 ∷ 151 ∷ 151 ∷ []) replyRoom ∷
-    sighting 2 0xEA07000001645E37 0 ∷
-    sighting 2 0xEA07000001645E37 2 ∷
-    sighting 2 0xEA07000001645E37 255 ∷
-    tick ∷
-    sighting 4 0xE00D000001645E37 63 ∷
-    frame (9 ∷ 4 ∷ 133 ∷ 23 ∷ 59 ∷ 0 ∷ 0 ∷ 147 ∷ 181 ∷ []) 1000 ∷
-    frame (2 ∷ 0 ∷ 7 ∷ 4 ∷ 100 ∷ 71 ∷ 232 ∷ []) 1000 ∷
-    frame (5 ∷ 4 ∷ 49 ∷ 228 ∷ 71 ∷ []) 1000 ∷
-    frame (2 ∷ 0 ∷ 7 ∷ 4 ∷ 134 ∷ 91 ∷ 44 ∷ []) 1000 ∷
-    frame (2 ∷ 0 ∷ 9 ∷ 4 ∷ 34 ∷ 0 ∷ 1 ∷ 182 ∷ 192 ∷ []) 1000 ∷
-    sighting 3 0xE0070A0001645E37 0 ∷
-    sighting 3 0xE0070A0001645E37 128 ∷
-    sighting 3 0xE0070A0001645E37 63 ∷
-    tick ∷
-    frame (7 ∷ 5 ∷ 130 ∷ 218 ∷ 158 ∷ 235 ∷ 8 ∷ []) replyRoom ∷
-    frame (5 ∷ 7 ∷ 51 ∷ 158 ∷ []) replyRoom ∷
-    frame (5 ∷ 7 ∷ 51 ∷ 158 ∷ 94 ∷ []) replyRoom ∷
-    frame (2 ∷ 0 ∷ 7 ∷ 8 ∷ 51 ∷ 221 ∷ 103 ∷ []) 1000 ∷
-    frame (2 ∷ 0 ∷ 7 ∷ 7 ∷ 52 ∷ 170 ∷ 144 ∷ []) replyRoom ∷
-    frame (6 ∷ 7 ∷ 134 ∷ 0 ∷ 162 ∷ 28 ∷ []) 1000 ∷
-    frame (2 ∷ 0 ∷ 8 ∷ 7 ∷ 82 ∷ 1 ∷ 53 ∷ 152 ∷ []) replyRoom ∷
-    frame (2 ∷ 0 ∷ 9 ∷ 0 ∷ 34 ∷ 0 ∷ 6 ∷ 229 ∷ 198 ∷ []) replyRoom ∷
-    frame (9 ∷ 4 ∷ 160 ∷ 0 ∷ 0 ∷ 0 ∷ 0 ∷ 222 ∷ 200 ∷ []) replyRoom ∷
+    frame (5 ∷ 1 ∷ 99 ∷ 203 ∷ 72 ∷ []) replyRoom ∷ sighting 1 0xE007000008645E37 2 ∷ sighting 1 0xE007000008645E37 2 ∷ tick ∷
+    sighting 1 0xE0070000016D5E37 1 ∷ tick ∷ tick ∷ tick ∷ tick ∷ tick ∷ tick ∷ tick ∷ tick ∷ tick ∷ tick ∷ tick ∷ tick ∷ tick ∷
+    tick ∷ tick ∷ tick ∷ tick ∷ tick ∷ tick ∷ tick ∷ tick ∷ tick ∷ tick ∷ tick ∷ tick ∷ tick ∷ tick ∷ tick ∷ tick ∷ tick ∷ tick ∷
+    tick ∷ tick ∷ tick ∷ tick ∷ tick ∷ tick ∷ tick ∷ tick ∷ tick ∷ tick ∷ tick ∷ tick ∷ tick ∷ tick ∷ tick ∷ tick ∷ tick ∷ tick ∷
+    tick ∷ tick ∷ tick ∷ tick ∷ sighting 1 0xE007000008645E37 128 ∷ tick ∷ sighting 1 0xE0070000016D5E37 128 ∷
+    sighting 1 0xE007000008645E37 255 ∷ tick ∷ sighting 1 0xE0070000016D5E37 2 ∷ sighting 1 0xE007000008645E37 128 ∷
+    frame (5 ∷ 1 ∷ 49 ∷ 92 ∷ 57 ∷ []) replyRoom ∷ frame (2 ∷ 0 ∷ 7 ∷ 1 ∷ 134 ∷ 227 ∷ 82 ∷ []) replyRoom ∷
+    frame (2 ∷ 0 ∷ 9 ∷ 1 ∷ 34 ∷ 0 ∷ 20 ∷ 205 ∷ 233 ∷ []) replyRoom ∷ sighting 4 0xE007000001645737 1 ∷
+    frame (9 ∷ 4 ∷ 133 ∷ 23 ∷ 59 ∷ 0 ∷ 0 ∷ 147 ∷ 181 ∷ []) replyRoom ∷ frame (2 ∷ 0 ∷ 7 ∷ 4 ∷ 100 ∷ 71 ∷ 232 ∷ []) replyRoom ∷
+    frame (5 ∷ 4 ∷ 49 ∷ 228 ∷ 71 ∷ []) 1000 ∷ frame (5 ∷ 4 ∷ 134 ∷ 208 ∷ 134 ∷ []) replyRoom ∷
+    frame (7 ∷ 4 ∷ 34 ∷ 0 ∷ 1 ∷ 178 ∷ 213 ∷ []) 1000 ∷ sighting 3 0xE007000001645E3E 2 ∷
+    frame (2 ∷ 0 ∷ 11 ∷ 3 ∷ 133 ∷ 23 ∷ 59 ∷ 0 ∷ 0 ∷ 148 ∷ 56 ∷ []) 1000 ∷ frame (5 ∷ 3 ∷ 100 ∷ 196 ∷ 15 ∷ []) replyRoom ∷
+    frame (2 ∷ 0 ∷ 7 ∷ 3 ∷ 49 ∷ 103 ∷ 160 ∷ []) 1000 ∷ frame (2 ∷ 0 ∷ 7 ∷ 3 ∷ 134 ∷ 83 ∷ 97 ∷ []) replyRoom ∷
+    frame (2 ∷ 0 ∷ 9 ∷ 3 ∷ 34 ∷ 0 ∷ 1 ∷ 151 ∷ 151 ∷ []) replyRoom ∷ sighting 2 0xEA07000001645E37 0 ∷
+    sighting 2 0xEA07000001645E37 2 ∷ sighting 2 0xEA07000001645E37 255 ∷ tick ∷ sighting 4 0xE00D000001645E37 63 ∷
+    frame (9 ∷ 4 ∷ 133 ∷ 23 ∷ 59 ∷ 0 ∷ 0 ∷ 147 ∷ 181 ∷ []) 1000 ∷ frame (2 ∷ 0 ∷ 7 ∷ 4 ∷ 100 ∷ 71 ∷ 232 ∷ []) 1000 ∷
+    frame (5 ∷ 4 ∷ 49 ∷ 228 ∷ 71 ∷ []) 1000 ∷ frame (2 ∷ 0 ∷ 7 ∷ 4 ∷ 134 ∷ 91 ∷ 44 ∷ []) 1000 ∷
+    frame (2 ∷ 0 ∷ 9 ∷ 4 ∷ 34 ∷ 0 ∷ 1 ∷ 182 ∷ 192 ∷ []) 1000 ∷ sighting 3 0xE0070A0001645E37 0 ∷ sighting 3 0xE0070A0001645E37 128 ∷
+    sighting 3 0xE0070A0001645E37 63 ∷ tick ∷ frame (7 ∷ 5 ∷ 130 ∷ 218 ∷ 158 ∷ 235 ∷ 8 ∷ []) replyRoom ∷
+    frame (5 ∷ 7 ∷ 51 ∷ 158 ∷ []) replyRoom ∷ frame (5 ∷ 7 ∷ 51 ∷ 158 ∷ 94 ∷ []) replyRoom ∷
+    frame (2 ∷ 0 ∷ 7 ∷ 8 ∷ 51 ∷ 221 ∷ 103 ∷ []) 1000 ∷ frame (2 ∷ 0 ∷ 7 ∷ 7 ∷ 52 ∷ 170 ∷ 144 ∷ []) replyRoom ∷
+    frame (6 ∷ 7 ∷ 134 ∷ 0 ∷ 162 ∷ 28 ∷ []) 1000 ∷ frame (2 ∷ 0 ∷ 8 ∷ 7 ∷ 82 ∷ 1 ∷ 53 ∷ 152 ∷ []) replyRoom ∷
+    frame (2 ∷ 0 ∷ 9 ∷ 0 ∷ 34 ∷ 0 ∷ 6 ∷ 229 ∷ 198 ∷ []) replyRoom ∷ frame (9 ∷ 4 ∷ 160 ∷ 0 ∷ 0 ∷ 0 ∷ 0 ∷ 222 ∷ 200 ∷ []) replyRoom ∷
     frame (2 ∷ 0 ∷ 8 ∷ 4 ∷ 130 ∷ 151 ∷ 213 ∷ 217 ∷ []) replyRoom ∷
     frame (20 ∷ 4 ∷ 129 ∷ 15 ∷ 30 ∷ 169 ∷ 140 ∷ 158 ∷ 234 ∷ 155 ∷ 95 ∷ 54 ∷ 15 ∷ 54 ∷ 233 ∷ 70 ∷ 63 ∷ 56 ∷ 131 ∷ 206 ∷ []) replyRoom ∷
     frame (6 ∷ 4 ∷ 128 ∷ 128 ∷ 30 ∷ 35 ∷ []) replyRoom ∷
     frame (20 ∷ 4 ∷ 129 ∷ 138 ∷ 83 ∷ 152 ∷ 49 ∷ 110 ∷ 202 ∷ 61 ∷ 75 ∷ 132 ∷ 199 ∷ 38 ∷ 102 ∷ 252 ∷ 23 ∷ 119 ∷ 155 ∷ 62 ∷ []) replyRoom ∷
     frame (2 ∷ 0 ∷ 22 ∷ 4 ∷ 129 ∷ 4 ∷ 119 ∷ 143 ∷ 87 ∷ 17 ∷ 234 ∷ 227 ∷ 87 ∷ 119 ∷ 55 ∷ 120 ∷ 14 ∷ 68 ∷ 203 ∷ 222 ∷ 32 ∷ 157 ∷ []) replyRoom ∷
-    frame (6 ∷ 4 ∷ 131 ∷ 127 ∷ 14 ∷ 6 ∷ []) 1000 ∷
-    frame (6 ∷ 4 ∷ 131 ∷ 4 ∷ 90 ∷ 203 ∷ []) 1000 ∷
-    frame (2 ∷ 0 ∷ 8 ∷ 4 ∷ 130 ∷ 255 ∷ 155 ∷ 54 ∷ []) replyRoom ∷
-    frame (6 ∷ 4 ∷ 128 ∷ 14 ∷ 104 ∷ 78 ∷ []) 1000 ∷
-    frame (6 ∷ 4 ∷ 128 ∷ 142 ∷ 96 ∷ 202 ∷ []) replyRoom ∷
-    frame (6 ∷ 4 ∷ 128 ∷ 8 ∷ 94 ∷ 43 ∷ []) 0 ∷
-    frame (6 ∷ 4 ∷ 128 ∷ 8 ∷ 94 ∷ 43 ∷ []) replyRoom ∷
-    frame (2 ∷ 0 ∷ 8 ∷ 4 ∷ 128 ∷ 136 ∷ 19 ∷ 2 ∷ []) replyRoom ∷
-    frame (6 ∷ 4 ∷ 128 ∷ 4 ∷ 50 ∷ 225 ∷ []) 0 ∷
-    frame (6 ∷ 4 ∷ 128 ∷ 4 ∷ 50 ∷ 225 ∷ []) 1000 ∷
-    frame (2 ∷ 0 ∷ 8 ∷ 4 ∷ 128 ∷ 132 ∷ 127 ∷ 200 ∷ []) 1000 ∷
-    frame (9 ∷ 1 ∷ 160 ∷ 0 ∷ 0 ∷ 0 ∷ 0 ∷ 89 ∷ 220 ∷ []) 1000 ∷
-    sighting 6 0xE007000A01645E37 2 ∷
-    frame (7 ∷ 6 ∷ 34 ∷ 0 ∷ 15 ∷ 186 ∷ 5 ∷ []) replyRoom ∷
-    sighting 6 0xE00700000B645E37 2 ∷
-    sighting 6 0xE0070000016E5E37 255 ∷
-    frame (7 ∷ 6 ∷ 34 ∷ 0 ∷ 54 ∷ 248 ∷ 169 ∷ []) replyRoom ∷
-    frame (2 ∷ 0 ∷ 7 ∷ 6 ∷ 50 ∷ 68 ∷ 236 ∷ []) replyRoom ∷
-    frame (2 ∷ 0 ∷ 7 ∷ 6 ∷ 49 ∷ 223 ∷ 222 ∷ []) 1000 ∷
-    frame (2 ∷ 0 ∷ 7 ∷ 6 ∷ 50 ∷ 68 ∷ 236 ∷ []) 841 ∷
-    frame (2 ∷ 0 ∷ 7 ∷ 6 ∷ 50 ∷ 68 ∷ 236 ∷ []) replyRoom ∷
-    frame (5 ∷ 6 ∷ 49 ∷ 84 ∷ 116 ∷ []) replyRoom ∷
-    frame (7 ∷ 6 ∷ 34 ∷ 0 ∷ 40 ∷ 7 ∷ 80 ∷ []) replyRoom ∷
-    frame (251 ∷ []) 1000 ∷
-    frame (2 ∷ 0 ∷ 7 ∷ 1 ∷ 99 ∷ 64 ∷ 226 ∷ []) replyRoom ∷
-    frame (2 ∷ 0 ∷ 7 ∷ 0 ∷ 99 ∷ 152 ∷ 251 ∷ []) replyRoom ∷
+    frame (6 ∷ 4 ∷ 131 ∷ 127 ∷ 14 ∷ 6 ∷ []) 1000 ∷ frame (6 ∷ 4 ∷ 131 ∷ 4 ∷ 90 ∷ 203 ∷ []) 1000 ∷
+    frame (2 ∷ 0 ∷ 8 ∷ 4 ∷ 130 ∷ 255 ∷ 155 ∷ 54 ∷ []) replyRoom ∷ frame (6 ∷ 4 ∷ 128 ∷ 14 ∷ 104 ∷ 78 ∷ []) 1000 ∷
+    frame (6 ∷ 4 ∷ 128 ∷ 142 ∷ 96 ∷ 202 ∷ []) replyRoom ∷ frame (6 ∷ 4 ∷ 128 ∷ 8 ∷ 94 ∷ 43 ∷ []) 0 ∷
+    frame (6 ∷ 4 ∷ 128 ∷ 8 ∷ 94 ∷ 43 ∷ []) replyRoom ∷ frame (2 ∷ 0 ∷ 8 ∷ 4 ∷ 128 ∷ 136 ∷ 19 ∷ 2 ∷ []) replyRoom ∷
+    frame (6 ∷ 4 ∷ 128 ∷ 4 ∷ 50 ∷ 225 ∷ []) 0 ∷ frame (6 ∷ 4 ∷ 128 ∷ 4 ∷ 50 ∷ 225 ∷ []) 1000 ∷
+    frame (2 ∷ 0 ∷ 8 ∷ 4 ∷ 128 ∷ 132 ∷ 127 ∷ 200 ∷ []) 1000 ∷ frame (9 ∷ 1 ∷ 160 ∷ 0 ∷ 0 ∷ 0 ∷ 0 ∷ 89 ∷ 220 ∷ []) 1000 ∷
+    sighting 6 0xE007000A01645E37 2 ∷ frame (7 ∷ 6 ∷ 34 ∷ 0 ∷ 15 ∷ 186 ∷ 5 ∷ []) replyRoom ∷ sighting 6 0xE00700000B645E37 2 ∷
+    sighting 6 0xE0070000016E5E37 255 ∷ frame (7 ∷ 6 ∷ 34 ∷ 0 ∷ 54 ∷ 248 ∷ 169 ∷ []) replyRoom ∷
+    frame (2 ∷ 0 ∷ 7 ∷ 6 ∷ 50 ∷ 68 ∷ 236 ∷ []) replyRoom ∷ frame (2 ∷ 0 ∷ 7 ∷ 6 ∷ 49 ∷ 223 ∷ 222 ∷ []) 1000 ∷
+    frame (2 ∷ 0 ∷ 7 ∷ 6 ∷ 50 ∷ 68 ∷ 236 ∷ []) 841 ∷ frame (2 ∷ 0 ∷ 7 ∷ 6 ∷ 50 ∷ 68 ∷ 236 ∷ []) replyRoom ∷
+    frame (5 ∷ 6 ∷ 49 ∷ 84 ∷ 116 ∷ []) replyRoom ∷ frame (7 ∷ 6 ∷ 34 ∷ 0 ∷ 40 ∷ 7 ∷ 80 ∷ []) replyRoom ∷ frame (251 ∷ []) 1000 ∷
+    frame (2 ∷ 0 ∷ 7 ∷ 1 ∷ 99 ∷ 64 ∷ 226 ∷ []) replyRoom ∷ frame (2 ∷ 0 ∷ 7 ∷ 0 ∷ 99 ∷ 152 ∷ 251 ∷ []) replyRoom ∷
     frame (9 ∷ 6 ∷ 160 ∷ 0 ∷ 0 ∷ 0 ∷ 0 ∷ 136 ∷ 192 ∷ []) 1000 ∷
     frame (2 ∷ 0 ∷ 22 ∷ 6 ∷ 129 ∷ 139 ∷ 94 ∷ 211 ∷ 172 ∷ 191 ∷ 144 ∷ 204 ∷ 100 ∷ 2 ∷ 245 ∷ 209 ∷ 98 ∷ 61 ∷ 226 ∷ 128 ∷ 13 ∷ 118 ∷ []) replyRoom ∷
-    frame (6 ∷ 6 ∷ 128 ∷ 84 ∷ 15 ∷ 6 ∷ []) replyRoom ∷
-    frame (6 ∷ 6 ∷ 131 ∷ 79 ∷ 53 ∷ 130 ∷ []) replyRoom ∷
+    frame (6 ∷ 6 ∷ 128 ∷ 84 ∷ 15 ∷ 6 ∷ []) replyRoom ∷ frame (6 ∷ 6 ∷ 131 ∷ 79 ∷ 53 ∷ 130 ∷ []) replyRoom ∷
     frame (6 ∷ 6 ∷ 128 ∷ 192 ∷ 162 ∷ 212 ∷ []) replyRoom ∷
     frame (20 ∷ 6 ∷ 129 ∷ 196 ∷ 106 ∷ 216 ∷ 51 ∷ 173 ∷ 0 ∷ 28 ∷ 111 ∷ 89 ∷ 28 ∷ 92 ∷ 9 ∷ 65 ∷ 28 ∷ 83 ∷ 128 ∷ 160 ∷ []) 0 ∷
     frame (20 ∷ 6 ∷ 129 ∷ 196 ∷ 106 ∷ 216 ∷ 51 ∷ 173 ∷ 0 ∷ 28 ∷ 111 ∷ 89 ∷ 28 ∷ 92 ∷ 9 ∷ 65 ∷ 28 ∷ 83 ∷ 128 ∷ 160 ∷ []) 1000 ∷
     frame (20 ∷ 6 ∷ 129 ∷ 1 ∷ 68 ∷ 94 ∷ 95 ∷ 235 ∷ 31 ∷ 110 ∷ 123 ∷ 104 ∷ 231 ∷ 245 ∷ 40 ∷ 149 ∷ 96 ∷ 82 ∷ 223 ∷ 223 ∷ []) replyRoom ∷
-    frame (2 ∷ 0 ∷ 8 ∷ 6 ∷ 130 ∷ 132 ∷ 119 ∷ 78 ∷ []) replyRoom ∷
-    frame (6 ∷ 6 ∷ 131 ∷ 193 ∷ 67 ∷ 239 ∷ []) replyRoom ∷
-    frame (6 ∷ 6 ∷ 128 ∷ 9 ∷ 111 ∷ 143 ∷ []) replyRoom ∷
-    frame (6 ∷ 6 ∷ 128 ∷ 137 ∷ 103 ∷ 11 ∷ []) replyRoom ∷
-    frame (6 ∷ 6 ∷ 128 ∷ 7 ∷ 17 ∷ 102 ∷ []) replyRoom ∷
-    frame (2 ∷ 0 ∷ 8 ∷ 6 ∷ 128 ∷ 135 ∷ 92 ∷ 79 ∷ []) 1000 ∷
-    frame (6 ∷ 6 ∷ 128 ∷ 11 ∷ 125 ∷ 172 ∷ []) replyRoom ∷
-    frame (6 ∷ 6 ∷ 128 ∷ 139 ∷ 117 ∷ 40 ∷ []) 0 ∷
-    frame (6 ∷ 6 ∷ 128 ∷ 139 ∷ 117 ∷ 40 ∷ []) replyRoom ∷
-    frame (5 ∷ 1 ∷ 51 ∷ 78 ∷ []) replyRoom ∷
-    frame (5 ∷ 1 ∷ 51 ∷ 78 ∷ 90 ∷ []) 841 ∷
-    frame (5 ∷ 1 ∷ 51 ∷ 78 ∷ 90 ∷ []) 1000 ∷
-    frame (2 ∷ 0 ∷ 7 ∷ 8 ∷ 51 ∷ 221 ∷ 103 ∷ []) 1000 ∷
-    frame (5 ∷ 1 ∷ 52 ∷ 241 ∷ 110 ∷ []) 1000 ∷
-    frame (2 ∷ 0 ∷ 8 ∷ 1 ∷ 134 ∷ 0 ∷ 62 ∷ 103 ∷ []) replyRoom ∷
-    frame (6 ∷ 1 ∷ 82 ∷ 1 ∷ 169 ∷ 227 ∷ []) replyRoom ∷
+    frame (2 ∷ 0 ∷ 8 ∷ 6 ∷ 130 ∷ 132 ∷ 119 ∷ 78 ∷ []) replyRoom ∷ frame (6 ∷ 6 ∷ 131 ∷ 193 ∷ 67 ∷ 239 ∷ []) replyRoom ∷
+    frame (6 ∷ 6 ∷ 128 ∷ 9 ∷ 111 ∷ 143 ∷ []) replyRoom ∷ frame (6 ∷ 6 ∷ 128 ∷ 137 ∷ 103 ∷ 11 ∷ []) replyRoom ∷
+    frame (6 ∷ 6 ∷ 128 ∷ 7 ∷ 17 ∷ 102 ∷ []) replyRoom ∷ frame (2 ∷ 0 ∷ 8 ∷ 6 ∷ 128 ∷ 135 ∷ 92 ∷ 79 ∷ []) 1000 ∷
+    frame (6 ∷ 6 ∷ 128 ∷ 11 ∷ 125 ∷ 172 ∷ []) replyRoom ∷ frame (6 ∷ 6 ∷ 128 ∷ 139 ∷ 117 ∷ 40 ∷ []) 0 ∷
+    frame (6 ∷ 6 ∷ 128 ∷ 139 ∷ 117 ∷ 40 ∷ []) replyRoom ∷ frame (5 ∷ 1 ∷ 51 ∷ 78 ∷ []) replyRoom ∷
+    frame (5 ∷ 1 ∷ 51 ∷ 78 ∷ 90 ∷ []) 841 ∷ frame (5 ∷ 1 ∷ 51 ∷ 78 ∷ 90 ∷ []) 1000 ∷
+    frame (2 ∷ 0 ∷ 7 ∷ 8 ∷ 51 ∷ 221 ∷ 103 ∷ []) 1000 ∷ frame (5 ∷ 1 ∷ 52 ∷ 241 ∷ 110 ∷ []) 1000 ∷
+    frame (2 ∷ 0 ∷ 8 ∷ 1 ∷ 134 ∷ 0 ∷ 62 ∷ 103 ∷ []) replyRoom ∷ frame (6 ∷ 1 ∷ 82 ∷ 1 ∷ 169 ∷ 227 ∷ []) replyRoom ∷
     frame (2 ∷ 3 ∷ 44 ∷ 3 ∷ 130 ∷ 75 ∷ 52 ∷ 78 ∷ 192 ∷ 160 ∷ 86 ∷ 15 ∷ 157 ∷ 93 ∷ 49 ∷ 206 ∷ 71 ∷ 79 ∷ 95 ∷ 129 ∷ 61 ∷ 93 ∷ 184 ∷ 52 ∷ 33 ∷ 118 ∷ 211 ∷ 149 ∷ 227 ∷ 34 ∷ 155 ∷ 34 ∷ 68 ∷ 96 ∷ 142 ∷ 100 ∷ 188 ∷ 139 ∷ 42 ∷ 92 ∷ 27 ∷ 211 ∷ 130 ∷ 37 ∷ 76 ∷ 11 ∷ 81 ∷ 141 ∷ 128 ∷ 164 ∷ 244 ∷ 98 ∷ 229 ∷ 9 ∷ 101 ∷ 60 ∷ 126 ∷ 255 ∷ 249 ∷ 70 ∷ 65 ∷ 208 ∷ 135 ∷ 136 ∷ 152 ∷ 14 ∷ 232 ∷ 120 ∷ 19 ∷ 99 ∷ 7 ∷ 36 ∷ 236 ∷ 51 ∷ 186 ∷ 232 ∷ 175 ∷ 63 ∷ 249 ∷ 44 ∷ 221 ∷ 104 ∷ 238 ∷ 185 ∷ 102 ∷ 200 ∷ 91 ∷ 237 ∷ 17 ∷ 180 ∷ 41 ∷ 217 ∷ 241 ∷ 216 ∷ 98 ∷ 0 ∷ 83 ∷ 162 ∷ 223 ∷ 35 ∷ 154 ∷ 208 ∷ 50 ∷ 23 ∷ 123 ∷ 86 ∷ 97 ∷ 29 ∷ 225 ∷ 97 ∷ 105 ∷ 27 ∷ 195 ∷ 140 ∷ 45 ∷ 160 ∷ 198 ∷ 227 ∷ 43 ∷ 4 ∷ 104 ∷ 126 ∷ 67 ∷ 228 ∷ 76 ∷ 184 ∷ 203 ∷ 185 ∷ 249 ∷ 177 ∷ 176 ∷ 226 ∷ 14 ∷ 160 ∷ 130 ∷ 144 ∷ 107 ∷ 81 ∷ 151 ∷ 187 ∷ 203 ∷ 131 ∷ 215 ∷ 76 ∷ 228 ∷ 184 ∷ 215 ∷ 214 ∷ 1 ∷ 159 ∷ 29 ∷ 63 ∷ 166 ∷ 214 ∷ 27 ∷ 137 ∷ 250 ∷ 205 ∷ 184 ∷ 55 ∷ 9 ∷ 67 ∷ 227 ∷ 70 ∷ 11 ∷ 110 ∷ 123 ∷ 169 ∷ 98 ∷ 76 ∷ 3 ∷ 50 ∷ 176 ∷ 210 ∷ 118 ∷ 225 ∷ 44 ∷ 227 ∷ 138 ∷ 92 ∷ 2 ∷ 136 ∷ 8 ∷ 239 ∷ 19 ∷ 241 ∷ 238 ∷ 140 ∷ 141 ∷ 88 ∷ 35 ∷ 237 ∷ 231 ∷ 58 ∷ 32 ∷ 132 ∷ 20 ∷ 197 ∷ 209 ∷ 152 ∷ 63 ∷ 103 ∷ 216 ∷ 61 ∷ 157 ∷ 79 ∷ 55 ∷ 115 ∷ 28 ∷ 181 ∷ 134 ∷ 100 ∷ 122 ∷ 192 ∷ 4 ∷ 120 ∷ 103 ∷ 144 ∷ 221 ∷ 78 ∷ 65 ∷ 146 ∷ 206 ∷ 253 ∷ 155 ∷ 198 ∷ 103 ∷ 121 ∷ 173 ∷ 152 ∷ 198 ∷ 163 ∷ 242 ∷ 189 ∷ 119 ∷ 167 ∷ 224 ∷ 189 ∷ 12 ∷ 10 ∷ 78 ∷ 88 ∷ 150 ∷ 249 ∷ 127 ∷ 91 ∷ 123 ∷ 116 ∷ 96 ∷ 96 ∷ 44 ∷ 36 ∷ 186 ∷ 239 ∷ 217 ∷ 223 ∷ 213 ∷ 35 ∷ 243 ∷ 107 ∷ 196 ∷ 224 ∷ 244 ∷ 63 ∷ 167 ∷ 245 ∷ 181 ∷ 114 ∷ 177 ∷ 140 ∷ 57 ∷ 27 ∷ 49 ∷ 248 ∷ 243 ∷ 177 ∷ 83 ∷ 252 ∷ 102 ∷ 131 ∷ 196 ∷ 54 ∷ 169 ∷ 235 ∷ 153 ∷ 45 ∷ 142 ∷ 100 ∷ 196 ∷ 1 ∷ 225 ∷ 27 ∷ 78 ∷ 222 ∷ 246 ∷ 152 ∷ 246 ∷ 147 ∷ 187 ∷ 77 ∷ 181 ∷ 55 ∷ 41 ∷ 126 ∷ 140 ∷ 246 ∷ 220 ∷ 6 ∷ 40 ∷ 160 ∷ 210 ∷ 180 ∷ 211 ∷ 76 ∷ 137 ∷ 28 ∷ 19 ∷ 114 ∷ 14 ∷ 147 ∷ 197 ∷ 68 ∷ 18 ∷ 164 ∷ 63 ∷ 10 ∷ 24 ∷ 148 ∷ 15 ∷ 105 ∷ 238 ∷ 217 ∷ 226 ∷ 29 ∷ 186 ∷ 32 ∷ 2 ∷ 235 ∷ 223 ∷ 127 ∷ 167 ∷ 3 ∷ 174 ∷ 120 ∷ 126 ∷ 169 ∷ 132 ∷ 79 ∷ 207 ∷ 148 ∷ 25 ∷ 89 ∷ 197 ∷ 248 ∷ 38 ∷ 161 ∷ 79 ∷ 188 ∷ 27 ∷ 89 ∷ 44 ∷ 207 ∷ 175 ∷ 73 ∷ 150 ∷ 138 ∷ 207 ∷ 115 ∷ 42 ∷ 52 ∷ 151 ∷ 144 ∷ 90 ∷ 250 ∷ 205 ∷ 224 ∷ 77 ∷ 90 ∷ 166 ∷ 245 ∷ 254 ∷ 9 ∷ 129 ∷ 106 ∷ 210 ∷ 205 ∷ 46 ∷ 82 ∷ 192 ∷ 73 ∷ 249 ∷ 178 ∷ 231 ∷ 8 ∷ 79 ∷ 145 ∷ 157 ∷ 35 ∷ 111 ∷ 121 ∷ 149 ∷ 56 ∷ 142 ∷ 5 ∷ 2 ∷ 65 ∷ 108 ∷ 75 ∷ 35 ∷ 112 ∷ 98 ∷ 255 ∷ 196 ∷ 195 ∷ 17 ∷ 89 ∷ 42 ∷ 117 ∷ 195 ∷ 237 ∷ 28 ∷ 20 ∷ 97 ∷ 246 ∷ 247 ∷ 72 ∷ 180 ∷ 125 ∷ 234 ∷ 212 ∷ 43 ∷ 223 ∷ 33 ∷ 220 ∷ 158 ∷ 59 ∷ 20 ∷ 23 ∷ 64 ∷ 62 ∷ 146 ∷ 85 ∷ 142 ∷ 65 ∷ 121 ∷ 108 ∷ 172 ∷ 237 ∷ 137 ∷ 167 ∷ 31 ∷ 209 ∷ 71 ∷ 184 ∷ 153 ∷ 38 ∷ 111 ∷ 62 ∷ 81 ∷ 36 ∷ 60 ∷ 111 ∷ 252 ∷ 222 ∷ 116 ∷ 236 ∷ 232 ∷ 205 ∷ 252 ∷ 113 ∷ 211 ∷ 240 ∷ 233 ∷ 162 ∷ 226 ∷ 89 ∷ 111 ∷ 239 ∷ 219 ∷ 176 ∷ 106 ∷ 29 ∷ 80 ∷ 233 ∷ 137 ∷ 74 ∷ 221 ∷ 177 ∷ 251 ∷ 27 ∷ 115 ∷ 68 ∷ 33 ∷ 91 ∷ 54 ∷ 44 ∷ 225 ∷ 102 ∷ 87 ∷ 235 ∷ 87 ∷ 101 ∷ 122 ∷ 186 ∷ 2 ∷ 66 ∷ 180 ∷ 12 ∷ 232 ∷ 146 ∷ 23 ∷ 55 ∷ 49 ∷ 165 ∷ 22 ∷ 5 ∷ 198 ∷ 180 ∷ 55 ∷ 219 ∷ 97 ∷ 151 ∷ 13 ∷ 230 ∷ 94 ∷ 209 ∷ 178 ∷ 79 ∷ 181 ∷ 219 ∷ 101 ∷ 115 ∷ 29 ∷ 93 ∷ 235 ∷ 25 ∷ 160 ∷ 141 ∷ 38 ∷ 162 ∷ 32 ∷ 162 ∷ 57 ∷ 53 ∷ 108 ∷ 50 ∷ 100 ∷ 228 ∷ 140 ∷ 22 ∷ 21 ∷ 72 ∷ 217 ∷ 221 ∷ 109 ∷ 230 ∷ 208 ∷ 193 ∷ 32 ∷ 193 ∷ 243 ∷ []) replyRoom ∷
     []
 
 unfoldable pub answers : List Answer
 answers =
-    refused 2 ∷
-    reply (6 ∷ 1 ∷ 160 ∷ 20 ∷ 61 ∷ 235 ∷ []) ∷
-    reply (6 ∷ 1 ∷ 128 ∷ 19 ∷ 177 ∷ 188 ∷ []) ∷
-    reply (6 ∷ 1 ∷ 160 ∷ 0 ∷ 152 ∷ 189 ∷ []) ∷
-    reply (6 ∷ 1 ∷ 128 ∷ 21 ∷ 135 ∷ 217 ∷ []) ∷
-    reply (2 ∷ 0 ∷ 8 ∷ 3 ∷ 160 ∷ 0 ∷ 101 ∷ 165 ∷ []) ∷
-    reply (2 ∷ 0 ∷ 8 ∷ 3 ∷ 129 ∷ 0 ∷ 142 ∷ 159 ∷ []) ∷
-    reply (6 ∷ 3 ∷ 130 ∷ 0 ∷ 163 ∷ 24 ∷ []) ∷
-    reply (2 ∷ 0 ∷ 8 ∷ 3 ∷ 99 ∷ 0 ∷ 167 ∷ 69 ∷ []) ∷
-    reply (6 ∷ 3 ∷ 160 ∷ 0 ∷ 32 ∷ 8 ∷ []) ∷
-    reply (6 ∷ 3 ∷ 131 ∷ 0 ∷ 123 ∷ 1 ∷ []) ∷
+    refused 2 ∷ reply (6 ∷ 1 ∷ 160 ∷ 20 ∷ 61 ∷ 235 ∷ []) ∷ reply (6 ∷ 1 ∷ 128 ∷ 19 ∷ 177 ∷ 188 ∷ []) ∷
+    reply (6 ∷ 1 ∷ 160 ∷ 0 ∷ 152 ∷ 189 ∷ []) ∷ reply (6 ∷ 1 ∷ 128 ∷ 21 ∷ 135 ∷ 217 ∷ []) ∷
+    reply (2 ∷ 0 ∷ 8 ∷ 3 ∷ 160 ∷ 0 ∷ 101 ∷ 165 ∷ []) ∷ reply (2 ∷ 0 ∷ 8 ∷ 3 ∷ 129 ∷ 0 ∷ 142 ∷ 159 ∷ []) ∷
+    reply (6 ∷ 3 ∷ 130 ∷ 0 ∷ 163 ∷ 24 ∷ []) ∷ reply (2 ∷ 0 ∷ 8 ∷ 3 ∷ 99 ∷ 0 ∷ 167 ∷ 69 ∷ []) ∷
+    reply (6 ∷ 3 ∷ 160 ∷ 0 ∷ 32 ∷ 8 ∷ []) ∷ reply (6 ∷ 3 ∷ 131 ∷ 0 ∷ 123 ∷ 1 ∷ []) ∷
     reply (20 ∷ 3 ∷ 128 ∷ 0 ∷ 0 ∷ 55 ∷ 0 ∷ 0 ∷ 0 ∷ 0 ∷ 0 ∷ 0 ∷ 0 ∷ 0 ∷ 0 ∷ 0 ∷ 0 ∷ 0 ∷ 181 ∷ 59 ∷ []) ∷
-    reply (6 ∷ 3 ∷ 82 ∷ 0 ∷ 152 ∷ 71 ∷ []) ∷
-    seen Recorded ∷
-    reply (6 ∷ 4 ∷ 133 ∷ 0 ∷ 174 ∷ 217 ∷ []) ∷
-    refused 2 ∷
-    reply (6 ∷ 4 ∷ 100 ∷ 0 ∷ 239 ∷ 41 ∷ []) ∷
-    reply (12 ∷ 4 ∷ 49 ∷ 0 ∷ 0 ∷ 64 ∷ 0 ∷ 0 ∷ 0 ∷ 0 ∷ 194 ∷ 215 ∷ []) ∷
-    reply (2 ∷ 0 ∷ 12 ∷ 4 ∷ 134 ∷ 0 ∷ 0 ∷ 0 ∷ 0 ∷ 0 ∷ 133 ∷ 141 ∷ []) ∷
-    reply (2 ∷ 0 ∷ 8 ∷ 4 ∷ 34 ∷ 146 ∷ 135 ∷ 33 ∷ []) ∷
-    refused 6 ∷
-    seen Recorded ∷
-    seen Ignored ∷
-    ok ∷
-    refused 3 ∷
-    refused 4 ∷
-    refused 5 ∷
-    reply (2 ∷ 0 ∷ 8 ∷ 7 ∷ 52 ∷ 128 ∷ 49 ∷ 60 ∷ []) ∷
-    reply (2 ∷ 0 ∷ 8 ∷ 7 ∷ 134 ∷ 129 ∷ 102 ∷ 36 ∷ []) ∷
-    reply (6 ∷ 7 ∷ 82 ∷ 17 ∷ 241 ∷ 37 ∷ []) ∷
-    seen Recorded ∷
-    seen Recorded ∷
-    seen Recorded ∷
-    seen Recorded ∷
-    seen Recorded ∷
-    seen Recorded ∷
-    seen Recorded ∷
-    seen Recorded ∷
-    seen Recorded ∷
-    seen Recorded ∷
-    seen Recorded ∷
-    seen Recorded ∷
-    seen Recorded ∷
-    seen Recorded ∷
-    seen Recorded ∷
-    seen Recorded ∷
-    seen Recorded ∷
-    seen Recorded ∷
-    seen Recorded ∷
-    seen Recorded ∷
-    seen Recorded ∷
-    seen Recorded ∷
-    seen Recorded ∷
-    seen Recorded ∷
-    seen Recorded ∷
-    seen Recorded ∷
-    seen Recorded ∷
-    seen Recorded ∷
-    seen Recorded ∷
-    seen Recorded ∷
-    seen Recorded ∷
-    seen Recorded ∷
-    seen Recorded ∷
-    seen Recorded ∷
-    seen Recorded ∷
-    seen Recorded ∷
-    seen Recorded ∷
-    seen Recorded ∷
-    seen Recorded ∷
-    seen Recorded ∷
-    seen Recorded ∷
-    seen Recorded ∷
-    seen Recorded ∷
-    seen Recorded ∷
-    seen Recorded ∷
-    seen Recorded ∷
-    seen Recorded ∷
-    seen Recorded ∷
-    seen Recorded ∷
-    seen Recorded ∷
-    seen Recorded ∷
-    seen Recorded ∷
-    seen Recorded ∷
-    seen Recorded ∷
-    seen Recorded ∷
-    seen Recorded ∷
-    seen Recorded ∷
-    seen Recorded ∷
-    seen Recorded ∷
-    seen Recorded ∷
-    seen Recorded ∷
-    seen Recorded ∷
-    seen Recorded ∷
-    seen Recorded ∷
-    seen Lost ∷
+    reply (6 ∷ 3 ∷ 82 ∷ 0 ∷ 152 ∷ 71 ∷ []) ∷ seen Recorded ∷ reply (6 ∷ 4 ∷ 133 ∷ 0 ∷ 174 ∷ 217 ∷ []) ∷ refused 2 ∷
+    reply (6 ∷ 4 ∷ 100 ∷ 0 ∷ 239 ∷ 41 ∷ []) ∷ reply (12 ∷ 4 ∷ 49 ∷ 0 ∷ 0 ∷ 64 ∷ 0 ∷ 0 ∷ 0 ∷ 0 ∷ 194 ∷ 215 ∷ []) ∷
+    reply (2 ∷ 0 ∷ 12 ∷ 4 ∷ 134 ∷ 0 ∷ 0 ∷ 0 ∷ 0 ∷ 0 ∷ 133 ∷ 141 ∷ []) ∷ reply (2 ∷ 0 ∷ 8 ∷ 4 ∷ 34 ∷ 146 ∷ 135 ∷ 33 ∷ []) ∷
+    refused 6 ∷ seen Recorded ∷ seen Ignored ∷ ok ∷ refused 3 ∷ refused 4 ∷ refused 5 ∷
+    reply (2 ∷ 0 ∷ 8 ∷ 7 ∷ 52 ∷ 128 ∷ 49 ∷ 60 ∷ []) ∷ reply (2 ∷ 0 ∷ 8 ∷ 7 ∷ 134 ∷ 129 ∷ 102 ∷ 36 ∷ []) ∷
+    reply (6 ∷ 7 ∷ 82 ∷ 17 ∷ 241 ∷ 37 ∷ []) ∷ seen Recorded ∷ seen Recorded ∷ seen Recorded ∷ seen Recorded ∷ seen Recorded ∷
+    seen Recorded ∷ seen Recorded ∷ seen Recorded ∷ seen Recorded ∷ seen Recorded ∷ seen Recorded ∷ seen Recorded ∷ seen Recorded ∷
+    seen Recorded ∷ seen Recorded ∷ seen Recorded ∷ seen Recorded ∷ seen Recorded ∷ seen Recorded ∷ seen Recorded ∷ seen Recorded ∷
+    seen Recorded ∷ seen Recorded ∷ seen Recorded ∷ seen Recorded ∷ seen Recorded ∷ seen Recorded ∷ seen Recorded ∷ seen Recorded ∷
+    seen Recorded ∷ seen Recorded ∷ seen Recorded ∷ seen Recorded ∷ seen Recorded ∷ seen Recorded ∷ seen Recorded ∷ seen Recorded ∷
+    seen Recorded ∷ seen Recorded ∷ seen Recorded ∷ seen Recorded ∷ seen Recorded ∷ seen Recorded ∷ seen Recorded ∷ seen Recorded ∷
+    seen Recorded ∷ seen Recorded ∷ seen Recorded ∷ seen Recorded ∷ seen Recorded ∷ seen Recorded ∷ seen Recorded ∷ seen Recorded ∷
+    seen Recorded ∷ seen Recorded ∷ seen Recorded ∷ seen Recorded ∷ seen Recorded ∷ seen Recorded ∷ seen Recorded ∷ seen Recorded ∷
+    seen Recorded ∷ seen Recorded ∷ seen Recorded ∷ seen Lost ∷
     reply (255 ∷ 7 ∷ 34 ∷ 147 ∷ 0 ∷ 19 ∷ 224 ∷ 7 ∷ 0 ∷ 1 ∷ 1 ∷ 100 ∷ 94 ∷ 55 ∷ 0 ∷ 0 ∷ 0 ∷ 100 ∷ 2 ∷ 224 ∷ 7 ∷ 0 ∷ 0 ∷ 0 ∷ 100 ∷ 94 ∷ 55 ∷ 0 ∷ 0 ∷ 0 ∷ 100 ∷ 63 ∷ 224 ∷ 7 ∷ 0 ∷ 0 ∷ 1 ∷ 101 ∷ 94 ∷ 55 ∷ 0 ∷ 0 ∷ 0 ∷ 100 ∷ 63 ∷ 224 ∷ 7 ∷ 0 ∷ 0 ∷ 1 ∷ 100 ∷ 95 ∷ 55 ∷ 0 ∷ 0 ∷ 0 ∷ 100 ∷ 63 ∷ 224 ∷ 7 ∷ 0 ∷ 0 ∷ 1 ∷ 100 ∷ 94 ∷ 54 ∷ 0 ∷ 0 ∷ 0 ∷ 100 ∷ 63 ∷ 226 ∷ 7 ∷ 0 ∷ 0 ∷ 1 ∷ 100 ∷ 94 ∷ 55 ∷ 0 ∷ 0 ∷ 0 ∷ 100 ∷ 255 ∷ 224 ∷ 5 ∷ 0 ∷ 0 ∷ 1 ∷ 100 ∷ 94 ∷ 55 ∷ 0 ∷ 0 ∷ 0 ∷ 100 ∷ 255 ∷ 224 ∷ 7 ∷ 2 ∷ 0 ∷ 1 ∷ 100 ∷ 94 ∷ 55 ∷ 0 ∷ 0 ∷ 0 ∷ 100 ∷ 63 ∷ 224 ∷ 7 ∷ 0 ∷ 2 ∷ 1 ∷ 100 ∷ 94 ∷ 55 ∷ 0 ∷ 0 ∷ 0 ∷ 100 ∷ 128 ∷ 224 ∷ 7 ∷ 0 ∷ 0 ∷ 3 ∷ 100 ∷ 94 ∷ 55 ∷ 0 ∷ 0 ∷ 0 ∷ 100 ∷ 2 ∷ 224 ∷ 7 ∷ 0 ∷ 0 ∷ 1 ∷ 102 ∷ 94 ∷ 55 ∷ 0 ∷ 0 ∷ 0 ∷ 100 ∷ 63 ∷ 224 ∷ 7 ∷ 0 ∷ 0 ∷ 1 ∷ 100 ∷ 92 ∷ 55 ∷ 0 ∷ 0 ∷ 0 ∷ 100 ∷ 63 ∷ 224 ∷ 7 ∷ 0 ∷ 0 ∷ 1 ∷ 100 ∷ 94 ∷ 53 ∷ 0 ∷ 0 ∷ 0 ∷ 100 ∷ 128 ∷ 227 ∷ 7 ∷ 0 ∷ 0 ∷ 1 ∷ 100 ∷ 94 ∷ 55 ∷ 0 ∷ 0 ∷ 0 ∷ 100 ∷ 2 ∷ 224 ∷ 4 ∷ 0 ∷ 0 ∷ 1 ∷ 100 ∷ 94 ∷ 55 ∷ 0 ∷ 0 ∷ 0 ∷ 100 ∷ 2 ∷ 224 ∷ 7 ∷ 3 ∷ 0 ∷ 1 ∷ 100 ∷ 94 ∷ 55 ∷ 0 ∷ 0 ∷ 0 ∷ 100 ∷ 1 ∷ 224 ∷ 7 ∷ 0 ∷ 3 ∷ 1 ∷ 100 ∷ 94 ∷ 55 ∷ 0 ∷ 0 ∷ 0 ∷ 100 ∷ 128 ∷ 224 ∷ 7 ∷ 0 ∷ 0 ∷ 2 ∷ 100 ∷ 94 ∷ 55 ∷ 0 ∷ 0 ∷ 0 ∷ 100 ∷ 255 ∷ 224 ∷ 7 ∷ 0 ∷ 0 ∷ 1 ∷ 103 ∷ 94 ∷ 55 ∷ 0 ∷ 0 ∷ 0 ∷ 100 ∷ 1 ∷ 131 ∷ 252 ∷ []) ∷
     reply (2 ∷ 0 ∷ 8 ∷ 7 ∷ 50 ∷ 0 ∷ 233 ∷ 236 ∷ []) ∷
     reply (255 ∷ 7 ∷ 34 ∷ 148 ∷ 0 ∷ 19 ∷ 224 ∷ 7 ∷ 0 ∷ 0 ∷ 1 ∷ 100 ∷ 93 ∷ 55 ∷ 0 ∷ 0 ∷ 0 ∷ 100 ∷ 1 ∷ 224 ∷ 7 ∷ 0 ∷ 0 ∷ 1 ∷ 100 ∷ 94 ∷ 52 ∷ 0 ∷ 0 ∷ 0 ∷ 100 ∷ 128 ∷ 228 ∷ 7 ∷ 0 ∷ 0 ∷ 1 ∷ 100 ∷ 94 ∷ 55 ∷ 0 ∷ 0 ∷ 0 ∷ 100 ∷ 2 ∷ 224 ∷ 3 ∷ 0 ∷ 0 ∷ 1 ∷ 100 ∷ 94 ∷ 55 ∷ 0 ∷ 0 ∷ 0 ∷ 100 ∷ 1 ∷ 224 ∷ 7 ∷ 4 ∷ 0 ∷ 1 ∷ 100 ∷ 94 ∷ 55 ∷ 0 ∷ 0 ∷ 0 ∷ 100 ∷ 255 ∷ 224 ∷ 7 ∷ 0 ∷ 4 ∷ 1 ∷ 100 ∷ 94 ∷ 55 ∷ 0 ∷ 0 ∷ 0 ∷ 100 ∷ 1 ∷ 224 ∷ 7 ∷ 0 ∷ 0 ∷ 5 ∷ 100 ∷ 94 ∷ 55 ∷ 0 ∷ 0 ∷ 0 ∷ 100 ∷ 2 ∷ 224 ∷ 7 ∷ 0 ∷ 0 ∷ 1 ∷ 96 ∷ 94 ∷ 55 ∷ 0 ∷ 0 ∷ 0 ∷ 100 ∷ 2 ∷ 224 ∷ 7 ∷ 0 ∷ 0 ∷ 1 ∷ 100 ∷ 90 ∷ 55 ∷ 0 ∷ 0 ∷ 0 ∷ 100 ∷ 1 ∷ 224 ∷ 7 ∷ 0 ∷ 0 ∷ 1 ∷ 100 ∷ 94 ∷ 51 ∷ 0 ∷ 0 ∷ 0 ∷ 100 ∷ 128 ∷ 229 ∷ 7 ∷ 0 ∷ 0 ∷ 1 ∷ 100 ∷ 94 ∷ 55 ∷ 0 ∷ 0 ∷ 0 ∷ 100 ∷ 255 ∷ 224 ∷ 2 ∷ 0 ∷ 0 ∷ 1 ∷ 100 ∷ 94 ∷ 55 ∷ 0 ∷ 0 ∷ 0 ∷ 100 ∷ 128 ∷ 224 ∷ 7 ∷ 5 ∷ 0 ∷ 1 ∷ 100 ∷ 94 ∷ 55 ∷ 0 ∷ 0 ∷ 0 ∷ 100 ∷ 2 ∷ 224 ∷ 7 ∷ 0 ∷ 5 ∷ 1 ∷ 100 ∷ 94 ∷ 55 ∷ 0 ∷ 0 ∷ 0 ∷ 100 ∷ 255 ∷ 224 ∷ 7 ∷ 0 ∷ 0 ∷ 4 ∷ 100 ∷ 94 ∷ 55 ∷ 0 ∷ 0 ∷ 0 ∷ 100 ∷ 2 ∷ 224 ∷ 7 ∷ 0 ∷ 0 ∷ 1 ∷ 97 ∷ 94 ∷ 55 ∷ 0 ∷ 0 ∷ 0 ∷ 100 ∷ 128 ∷ 224 ∷ 7 ∷ 0 ∷ 0 ∷ 1 ∷ 100 ∷ 91 ∷ 55 ∷ 0 ∷ 0 ∷ 0 ∷ 100 ∷ 255 ∷ 224 ∷ 7 ∷ 0 ∷ 0 ∷ 1 ∷ 100 ∷ 94 ∷ 50 ∷ 0 ∷ 0 ∷ 0 ∷ 100 ∷ 63 ∷ 230 ∷ 7 ∷ 0 ∷ 0 ∷ 1 ∷ 100 ∷ 94 ∷ 55 ∷ 0 ∷ 0 ∷ 0 ∷ 100 ∷ 255 ∷ 222 ∷ 19 ∷ []) ∷
     reply (21 ∷ 7 ∷ 34 ∷ 0 ∷ 0 ∷ 1 ∷ 224 ∷ 7 ∷ 0 ∷ 0 ∷ 1 ∷ 100 ∷ 93 ∷ 55 ∷ 0 ∷ 0 ∷ 0 ∷ 100 ∷ 1 ∷ 254 ∷ 15 ∷ []) ∷
-    reply (2 ∷ 0 ∷ 8 ∷ 7 ∷ 51 ∷ 0 ∷ 49 ∷ 245 ∷ []) ∷
-    reply (2 ∷ 0 ∷ 8 ∷ 7 ∷ 160 ∷ 0 ∷ 4 ∷ 198 ∷ []) ∷
-    reply (6 ∷ 7 ∷ 129 ∷ 0 ∷ 170 ∷ 81 ∷ []) ∷
-    refused 2 ∷
-    reply (2 ∷ 0 ∷ 8 ∷ 7 ∷ 130 ∷ 0 ∷ 135 ∷ 214 ∷ []) ∷
-    reply (2 ∷ 0 ∷ 8 ∷ 7 ∷ 99 ∷ 0 ∷ 198 ∷ 38 ∷ []) ∷
-    reply (2 ∷ 0 ∷ 8 ∷ 7 ∷ 160 ∷ 0 ∷ 4 ∷ 198 ∷ []) ∷
-    refused 2 ∷
+    reply (2 ∷ 0 ∷ 8 ∷ 7 ∷ 51 ∷ 0 ∷ 49 ∷ 245 ∷ []) ∷ reply (2 ∷ 0 ∷ 8 ∷ 7 ∷ 160 ∷ 0 ∷ 4 ∷ 198 ∷ []) ∷
+    reply (6 ∷ 7 ∷ 129 ∷ 0 ∷ 170 ∷ 81 ∷ []) ∷ refused 2 ∷ reply (2 ∷ 0 ∷ 8 ∷ 7 ∷ 130 ∷ 0 ∷ 135 ∷ 214 ∷ []) ∷
+    reply (2 ∷ 0 ∷ 8 ∷ 7 ∷ 99 ∷ 0 ∷ 198 ∷ 38 ∷ []) ∷ reply (2 ∷ 0 ∷ 8 ∷ 7 ∷ 160 ∷ 0 ∷ 4 ∷ 198 ∷ []) ∷ refused 2 ∷
     reply (6 ∷ 7 ∷ 131 ∷ 0 ∷ 26 ∷ 98 ∷ []) ∷
     reply (20 ∷ 7 ∷ 128 ∷ 0 ∷ 0 ∷ 55 ∷ 0 ∷ 0 ∷ 0 ∷ 0 ∷ 0 ∷ 0 ∷ 0 ∷ 0 ∷ 0 ∷ 0 ∷ 0 ∷ 0 ∷ 137 ∷ 123 ∷ []) ∷
-    reply (6 ∷ 7 ∷ 82 ∷ 0 ∷ 249 ∷ 36 ∷ []) ∷
-    reply (6 ∷ 0 ∷ 160 ∷ 20 ∷ 225 ∷ 177 ∷ []) ∷
-    reply (6 ∷ 0 ∷ 128 ∷ 19 ∷ 109 ∷ 230 ∷ []) ∷
-    reply (6 ∷ 0 ∷ 160 ∷ 0 ∷ 68 ∷ 231 ∷ []) ∷
-    reply (2 ∷ 0 ∷ 8 ∷ 0 ∷ 128 ∷ 21 ∷ 30 ∷ 46 ∷ []) ∷
-    refused 2 ∷
+    reply (6 ∷ 7 ∷ 82 ∷ 0 ∷ 249 ∷ 36 ∷ []) ∷ reply (6 ∷ 0 ∷ 160 ∷ 20 ∷ 225 ∷ 177 ∷ []) ∷ reply (6 ∷ 0 ∷ 128 ∷ 19 ∷ 109 ∷ 230 ∷ []) ∷
+    reply (6 ∷ 0 ∷ 160 ∷ 0 ∷ 68 ∷ 231 ∷ []) ∷ reply (2 ∷ 0 ∷ 8 ∷ 0 ∷ 128 ∷ 21 ∷ 30 ∷ 46 ∷ []) ∷ refused 2 ∷
     reply (2 ∷ 0 ∷ 14 ∷ 2 ∷ 49 ∷ 0 ∷ 0 ∷ 64 ∷ 0 ∷ 0 ∷ 0 ∷ 0 ∷ 142 ∷ 42 ∷ []) ∷
     reply (2 ∷ 0 ∷ 12 ∷ 1 ∷ 134 ∷ 0 ∷ 0 ∷ 0 ∷ 0 ∷ 100 ∷ 4 ∷ 88 ∷ []) ∷
-    reply (2 ∷ 0 ∷ 12 ∷ 6 ∷ 134 ∷ 0 ∷ 0 ∷ 0 ∷ 0 ∷ 100 ∷ 28 ∷ 159 ∷ []) ∷
-    reply (6 ∷ 1 ∷ 129 ∷ 0 ∷ 115 ∷ 135 ∷ []) ∷
-    reply (6 ∷ 1 ∷ 99 ∷ 0 ∷ 90 ∷ 93 ∷ []) ∷
-    seen Recorded ∷
-    seen Ignored ∷
-    ok ∷
-    seen Recorded ∷
-    ok ∷
-    ok ∷
-    ok ∷
-    ok ∷
-    ok ∷
-    ok ∷
-    ok ∷
-    ok ∷
-    ok ∷
-    ok ∷
-    ok ∷
-    ok ∷
-    ok ∷
-    ok ∷
-    ok ∷
-    ok ∷
-    ok ∷
-    ok ∷
-    ok ∷
-    ok ∷
-    ok ∷
-    ok ∷
-    ok ∷
-    ok ∷
-    ok ∷
-    ok ∷
-    ok ∷
-    ok ∷
-    ok ∷
-    ok ∷
-    ok ∷
-    ok ∷
-    ok ∷
-    ok ∷
-    ok ∷
-    ok ∷
-    ok ∷
-    ok ∷
-    ok ∷
-    ok ∷
-    ok ∷
-    ok ∷
-    ok ∷
-    ok ∷
-    ok ∷
-    ok ∷
-    ok ∷
-    ok ∷
-    ok ∷
-    ok ∷
-    ok ∷
-    ok ∷
-    ok ∷
-    seen Ignored ∷
-    ok ∷
-    seen Ignored ∷
-    seen Recorded ∷
-    ok ∷
-    seen Recorded ∷
-    seen Ignored ∷
+    reply (2 ∷ 0 ∷ 12 ∷ 6 ∷ 134 ∷ 0 ∷ 0 ∷ 0 ∷ 0 ∷ 100 ∷ 28 ∷ 159 ∷ []) ∷ reply (6 ∷ 1 ∷ 129 ∷ 0 ∷ 115 ∷ 135 ∷ []) ∷
+    reply (6 ∷ 1 ∷ 99 ∷ 0 ∷ 90 ∷ 93 ∷ []) ∷ seen Recorded ∷ seen Ignored ∷ ok ∷ seen Recorded ∷ ok ∷ ok ∷ ok ∷ ok ∷ ok ∷ ok ∷ ok ∷
+    ok ∷ ok ∷ ok ∷ ok ∷ ok ∷ ok ∷ ok ∷ ok ∷ ok ∷ ok ∷ ok ∷ ok ∷ ok ∷ ok ∷ ok ∷ ok ∷ ok ∷ ok ∷ ok ∷ ok ∷ ok ∷ ok ∷ ok ∷ ok ∷ ok ∷ ok ∷
+    ok ∷ ok ∷ ok ∷ ok ∷ ok ∷ ok ∷ ok ∷ ok ∷ ok ∷ ok ∷ ok ∷ ok ∷ ok ∷ ok ∷ ok ∷ ok ∷ ok ∷ ok ∷ ok ∷ ok ∷ seen Ignored ∷ ok ∷
+    seen Ignored ∷ seen Recorded ∷ ok ∷ seen Recorded ∷ seen Ignored ∷
     reply (12 ∷ 1 ∷ 49 ∷ 0 ∷ 0 ∷ 64 ∷ 0 ∷ 0 ∷ 0 ∷ 4 ∷ 254 ∷ 227 ∷ []) ∷
     reply (2 ∷ 0 ∷ 12 ∷ 1 ∷ 134 ∷ 0 ∷ 0 ∷ 0 ∷ 22 ∷ 68 ∷ 71 ∷ 184 ∷ []) ∷
     reply (2 ∷ 0 ∷ 62 ∷ 1 ∷ 34 ∷ 0 ∷ 0 ∷ 4 ∷ 224 ∷ 7 ∷ 0 ∷ 0 ∷ 8 ∷ 100 ∷ 94 ∷ 55 ∷ 0 ∷ 0 ∷ 0 ∷ 100 ∷ 2 ∷ 224 ∷ 7 ∷ 0 ∷ 0 ∷ 1 ∷ 109 ∷ 94 ∷ 55 ∷ 0 ∷ 0 ∷ 0 ∷ 200 ∷ 1 ∷ 224 ∷ 7 ∷ 0 ∷ 0 ∷ 8 ∷ 100 ∷ 94 ∷ 55 ∷ 0 ∷ 0 ∷ 21 ∷ 224 ∷ 255 ∷ 224 ∷ 7 ∷ 0 ∷ 0 ∷ 1 ∷ 109 ∷ 94 ∷ 55 ∷ 0 ∷ 0 ∷ 22 ∷ 68 ∷ 2 ∷ 122 ∷ 121 ∷ []) ∷
-    seen Recorded ∷
-    reply (6 ∷ 4 ∷ 133 ∷ 0 ∷ 174 ∷ 217 ∷ []) ∷
-    reply (2 ∷ 0 ∷ 8 ∷ 4 ∷ 100 ∷ 0 ∷ 170 ∷ 132 ∷ []) ∷
-    reply (12 ∷ 4 ∷ 49 ∷ 0 ∷ 0 ∷ 64 ∷ 0 ∷ 0 ∷ 0 ∷ 0 ∷ 194 ∷ 215 ∷ []) ∷
-    reply (10 ∷ 4 ∷ 134 ∷ 0 ∷ 0 ∷ 0 ∷ 0 ∷ 0 ∷ 113 ∷ 40 ∷ []) ∷
-    reply (6 ∷ 4 ∷ 34 ∷ 146 ∷ 194 ∷ 140 ∷ []) ∷
-    seen Recorded ∷
-    reply (2 ∷ 0 ∷ 8 ∷ 3 ∷ 133 ∷ 0 ∷ 238 ∷ 248 ∷ []) ∷
-    reply (6 ∷ 3 ∷ 100 ∷ 0 ∷ 234 ∷ 165 ∷ []) ∷
-    reply (2 ∷ 0 ∷ 14 ∷ 3 ∷ 49 ∷ 0 ∷ 0 ∷ 64 ∷ 0 ∷ 0 ∷ 0 ∷ 0 ∷ 115 ∷ 103 ∷ []) ∷
-    reply (2 ∷ 0 ∷ 12 ∷ 3 ∷ 134 ∷ 0 ∷ 0 ∷ 0 ∷ 0 ∷ 0 ∷ 157 ∷ 74 ∷ []) ∷
-    reply (2 ∷ 0 ∷ 8 ∷ 3 ∷ 34 ∷ 146 ∷ 130 ∷ 173 ∷ []) ∷
-    refused 6 ∷
-    seen Recorded ∷
-    seen Ignored ∷
-    ok ∷
-    seen Recorded ∷
-    reply (6 ∷ 4 ∷ 133 ∷ 0 ∷ 174 ∷ 217 ∷ []) ∷
-    reply (2 ∷ 0 ∷ 8 ∷ 4 ∷ 100 ∷ 0 ∷ 170 ∷ 132 ∷ []) ∷
-    reply (12 ∷ 4 ∷ 49 ∷ 0 ∷ 0 ∷ 64 ∷ 0 ∷ 0 ∷ 0 ∷ 0 ∷ 194 ∷ 215 ∷ []) ∷
-    reply (2 ∷ 0 ∷ 12 ∷ 4 ∷ 134 ∷ 0 ∷ 0 ∷ 0 ∷ 0 ∷ 0 ∷ 133 ∷ 141 ∷ []) ∷
-    reply (2 ∷ 0 ∷ 8 ∷ 4 ∷ 34 ∷ 146 ∷ 135 ∷ 33 ∷ []) ∷
-    refused 6 ∷
-    seen Recorded ∷
-    seen Ignored ∷
-    ok ∷
-    reply (6 ∷ 5 ∷ 130 ∷ 129 ∷ 251 ∷ 91 ∷ []) ∷
-    refused 3 ∷
-    refused 4 ∷
-    refused 5 ∷
-    reply (2 ∷ 0 ∷ 8 ∷ 7 ∷ 52 ∷ 128 ∷ 49 ∷ 60 ∷ []) ∷
-    reply (6 ∷ 7 ∷ 134 ∷ 129 ∷ 35 ∷ 137 ∷ []) ∷
-    reply (2 ∷ 0 ∷ 8 ∷ 7 ∷ 82 ∷ 17 ∷ 180 ∷ 136 ∷ []) ∷
-    reply (2 ∷ 0 ∷ 8 ∷ 0 ∷ 34 ∷ 146 ∷ 230 ∷ 66 ∷ []) ∷
-    reply (6 ∷ 4 ∷ 160 ∷ 0 ∷ 37 ∷ 132 ∷ []) ∷
-    reply (2 ∷ 0 ∷ 8 ∷ 4 ∷ 130 ∷ 17 ∷ 235 ∷ 56 ∷ []) ∷
-    reply (6 ∷ 4 ∷ 129 ∷ 0 ∷ 206 ∷ 190 ∷ []) ∷
-    reply (6 ∷ 4 ∷ 128 ∷ 21 ∷ 58 ∷ 224 ∷ []) ∷
-    reply (6 ∷ 4 ∷ 129 ∷ 0 ∷ 206 ∷ 190 ∷ []) ∷
-    reply (2 ∷ 0 ∷ 8 ∷ 4 ∷ 129 ∷ 0 ∷ 139 ∷ 19 ∷ []) ∷
-    reply (6 ∷ 4 ∷ 131 ∷ 17 ∷ 118 ∷ 140 ∷ []) ∷
-    reply (6 ∷ 4 ∷ 131 ∷ 0 ∷ 126 ∷ 141 ∷ []) ∷
-    reply (2 ∷ 0 ∷ 8 ∷ 4 ∷ 130 ∷ 17 ∷ 235 ∷ 56 ∷ []) ∷
+    seen Recorded ∷ reply (6 ∷ 4 ∷ 133 ∷ 0 ∷ 174 ∷ 217 ∷ []) ∷ reply (2 ∷ 0 ∷ 8 ∷ 4 ∷ 100 ∷ 0 ∷ 170 ∷ 132 ∷ []) ∷
+    reply (12 ∷ 4 ∷ 49 ∷ 0 ∷ 0 ∷ 64 ∷ 0 ∷ 0 ∷ 0 ∷ 0 ∷ 194 ∷ 215 ∷ []) ∷ reply (10 ∷ 4 ∷ 134 ∷ 0 ∷ 0 ∷ 0 ∷ 0 ∷ 0 ∷ 113 ∷ 40 ∷ []) ∷
+    reply (6 ∷ 4 ∷ 34 ∷ 146 ∷ 194 ∷ 140 ∷ []) ∷ seen Recorded ∷ reply (2 ∷ 0 ∷ 8 ∷ 3 ∷ 133 ∷ 0 ∷ 238 ∷ 248 ∷ []) ∷
+    reply (6 ∷ 3 ∷ 100 ∷ 0 ∷ 234 ∷ 165 ∷ []) ∷ reply (2 ∷ 0 ∷ 14 ∷ 3 ∷ 49 ∷ 0 ∷ 0 ∷ 64 ∷ 0 ∷ 0 ∷ 0 ∷ 0 ∷ 115 ∷ 103 ∷ []) ∷
+    reply (2 ∷ 0 ∷ 12 ∷ 3 ∷ 134 ∷ 0 ∷ 0 ∷ 0 ∷ 0 ∷ 0 ∷ 157 ∷ 74 ∷ []) ∷ reply (2 ∷ 0 ∷ 8 ∷ 3 ∷ 34 ∷ 146 ∷ 130 ∷ 173 ∷ []) ∷
+    refused 6 ∷ seen Recorded ∷ seen Ignored ∷ ok ∷ seen Recorded ∷ reply (6 ∷ 4 ∷ 133 ∷ 0 ∷ 174 ∷ 217 ∷ []) ∷
+    reply (2 ∷ 0 ∷ 8 ∷ 4 ∷ 100 ∷ 0 ∷ 170 ∷ 132 ∷ []) ∷ reply (12 ∷ 4 ∷ 49 ∷ 0 ∷ 0 ∷ 64 ∷ 0 ∷ 0 ∷ 0 ∷ 0 ∷ 194 ∷ 215 ∷ []) ∷
+    reply (2 ∷ 0 ∷ 12 ∷ 4 ∷ 134 ∷ 0 ∷ 0 ∷ 0 ∷ 0 ∷ 0 ∷ 133 ∷ 141 ∷ []) ∷ reply (2 ∷ 0 ∷ 8 ∷ 4 ∷ 34 ∷ 146 ∷ 135 ∷ 33 ∷ []) ∷
+    refused 6 ∷ seen Recorded ∷ seen Ignored ∷ ok ∷ reply (6 ∷ 5 ∷ 130 ∷ 129 ∷ 251 ∷ 91 ∷ []) ∷ refused 3 ∷ refused 4 ∷ refused 5 ∷
+    reply (2 ∷ 0 ∷ 8 ∷ 7 ∷ 52 ∷ 128 ∷ 49 ∷ 60 ∷ []) ∷ reply (6 ∷ 7 ∷ 134 ∷ 129 ∷ 35 ∷ 137 ∷ []) ∷
+    reply (2 ∷ 0 ∷ 8 ∷ 7 ∷ 82 ∷ 17 ∷ 180 ∷ 136 ∷ []) ∷ reply (2 ∷ 0 ∷ 8 ∷ 0 ∷ 34 ∷ 146 ∷ 230 ∷ 66 ∷ []) ∷
+    reply (6 ∷ 4 ∷ 160 ∷ 0 ∷ 37 ∷ 132 ∷ []) ∷ reply (2 ∷ 0 ∷ 8 ∷ 4 ∷ 130 ∷ 17 ∷ 235 ∷ 56 ∷ []) ∷
+    reply (6 ∷ 4 ∷ 129 ∷ 0 ∷ 206 ∷ 190 ∷ []) ∷ reply (6 ∷ 4 ∷ 128 ∷ 21 ∷ 58 ∷ 224 ∷ []) ∷ reply (6 ∷ 4 ∷ 129 ∷ 0 ∷ 206 ∷ 190 ∷ []) ∷
+    reply (2 ∷ 0 ∷ 8 ∷ 4 ∷ 129 ∷ 0 ∷ 139 ∷ 19 ∷ []) ∷ reply (6 ∷ 4 ∷ 131 ∷ 17 ∷ 118 ∷ 140 ∷ []) ∷
+    reply (6 ∷ 4 ∷ 131 ∷ 0 ∷ 126 ∷ 141 ∷ []) ∷ reply (2 ∷ 0 ∷ 8 ∷ 4 ∷ 130 ∷ 17 ∷ 235 ∷ 56 ∷ []) ∷
     reply (20 ∷ 4 ∷ 128 ∷ 0 ∷ 0 ∷ 0 ∷ 0 ∷ 0 ∷ 0 ∷ 0 ∷ 0 ∷ 0 ∷ 0 ∷ 0 ∷ 0 ∷ 0 ∷ 0 ∷ 0 ∷ 171 ∷ 188 ∷ []) ∷
+    reply (20 ∷ 4 ∷ 128 ∷ 0 ∷ 0 ∷ 0 ∷ 0 ∷ 0 ∷ 0 ∷ 0 ∷ 0 ∷ 0 ∷ 0 ∷ 0 ∷ 0 ∷ 0 ∷ 0 ∷ 0 ∷ 171 ∷ 188 ∷ []) ∷ refused 2 ∷
     reply (20 ∷ 4 ∷ 128 ∷ 0 ∷ 0 ∷ 0 ∷ 0 ∷ 0 ∷ 0 ∷ 0 ∷ 0 ∷ 0 ∷ 0 ∷ 0 ∷ 0 ∷ 0 ∷ 0 ∷ 0 ∷ 171 ∷ 188 ∷ []) ∷
-    refused 2 ∷
+    reply (2 ∷ 0 ∷ 22 ∷ 4 ∷ 128 ∷ 0 ∷ 0 ∷ 0 ∷ 0 ∷ 0 ∷ 0 ∷ 0 ∷ 0 ∷ 0 ∷ 0 ∷ 0 ∷ 0 ∷ 0 ∷ 0 ∷ 0 ∷ 4 ∷ 59 ∷ []) ∷ refused 2 ∷
     reply (20 ∷ 4 ∷ 128 ∷ 0 ∷ 0 ∷ 0 ∷ 0 ∷ 0 ∷ 0 ∷ 0 ∷ 0 ∷ 0 ∷ 0 ∷ 0 ∷ 0 ∷ 0 ∷ 0 ∷ 0 ∷ 171 ∷ 188 ∷ []) ∷
     reply (2 ∷ 0 ∷ 22 ∷ 4 ∷ 128 ∷ 0 ∷ 0 ∷ 0 ∷ 0 ∷ 0 ∷ 0 ∷ 0 ∷ 0 ∷ 0 ∷ 0 ∷ 0 ∷ 0 ∷ 0 ∷ 0 ∷ 0 ∷ 4 ∷ 59 ∷ []) ∷
-    refused 2 ∷
-    reply (20 ∷ 4 ∷ 128 ∷ 0 ∷ 0 ∷ 0 ∷ 0 ∷ 0 ∷ 0 ∷ 0 ∷ 0 ∷ 0 ∷ 0 ∷ 0 ∷ 0 ∷ 0 ∷ 0 ∷ 0 ∷ 171 ∷ 188 ∷ []) ∷
-    reply (2 ∷ 0 ∷ 22 ∷ 4 ∷ 128 ∷ 0 ∷ 0 ∷ 0 ∷ 0 ∷ 0 ∷ 0 ∷ 0 ∷ 0 ∷ 0 ∷ 0 ∷ 0 ∷ 0 ∷ 0 ∷ 0 ∷ 0 ∷ 4 ∷ 59 ∷ []) ∷
-    reply (6 ∷ 1 ∷ 160 ∷ 0 ∷ 152 ∷ 189 ∷ []) ∷
-    seen Recorded ∷
+    reply (6 ∷ 1 ∷ 160 ∷ 0 ∷ 152 ∷ 189 ∷ []) ∷ seen Recorded ∷
     reply (34 ∷ 6 ∷ 34 ∷ 0 ∷ 0 ∷ 2 ∷ 224 ∷ 7 ∷ 1 ∷ 0 ∷ 1 ∷ 100 ∷ 94 ∷ 55 ∷ 0 ∷ 0 ∷ 0 ∷ 0 ∷ 128 ∷ 224 ∷ 7 ∷ 0 ∷ 10 ∷ 1 ∷ 100 ∷ 94 ∷ 55 ∷ 0 ∷ 0 ∷ 23 ∷ 12 ∷ 2 ∷ 81 ∷ 236 ∷ []) ∷
-    seen Recorded ∷
-    seen Recorded ∷
+    seen Recorded ∷ seen Recorded ∷
     reply (60 ∷ 6 ∷ 34 ∷ 0 ∷ 0 ∷ 4 ∷ 224 ∷ 7 ∷ 1 ∷ 0 ∷ 1 ∷ 100 ∷ 94 ∷ 55 ∷ 0 ∷ 0 ∷ 0 ∷ 0 ∷ 128 ∷ 224 ∷ 7 ∷ 0 ∷ 10 ∷ 1 ∷ 100 ∷ 94 ∷ 55 ∷ 0 ∷ 0 ∷ 23 ∷ 12 ∷ 2 ∷ 224 ∷ 7 ∷ 0 ∷ 0 ∷ 11 ∷ 100 ∷ 94 ∷ 55 ∷ 0 ∷ 0 ∷ 23 ∷ 12 ∷ 2 ∷ 224 ∷ 7 ∷ 0 ∷ 0 ∷ 1 ∷ 110 ∷ 94 ∷ 55 ∷ 0 ∷ 0 ∷ 23 ∷ 12 ∷ 255 ∷ 221 ∷ 145 ∷ []) ∷
-    reply (2 ∷ 0 ∷ 8 ∷ 6 ∷ 50 ∷ 0 ∷ 53 ∷ 182 ∷ []) ∷
-    reply (2 ∷ 0 ∷ 14 ∷ 6 ∷ 49 ∷ 0 ∷ 0 ∷ 64 ∷ 0 ∷ 4 ∷ 0 ∷ 0 ∷ 10 ∷ 118 ∷ []) ∷
-    refused 2 ∷
-    reply (2 ∷ 0 ∷ 8 ∷ 6 ∷ 50 ∷ 0 ∷ 53 ∷ 182 ∷ []) ∷
-    reply (12 ∷ 6 ∷ 49 ∷ 0 ∷ 0 ∷ 64 ∷ 0 ∷ 4 ∷ 0 ∷ 0 ∷ 89 ∷ 47 ∷ []) ∷
-    reply (6 ∷ 6 ∷ 34 ∷ 146 ∷ 122 ∷ 57 ∷ []) ∷
-    refused 3 ∷
-    reply (2 ∷ 0 ∷ 8 ∷ 1 ∷ 99 ∷ 0 ∷ 31 ∷ 240 ∷ []) ∷
-    reply (2 ∷ 0 ∷ 8 ∷ 0 ∷ 99 ∷ 0 ∷ 195 ∷ 170 ∷ []) ∷
-    reply (6 ∷ 6 ∷ 160 ∷ 0 ∷ 157 ∷ 49 ∷ []) ∷
-    reply (2 ∷ 0 ∷ 8 ∷ 6 ∷ 129 ∷ 0 ∷ 51 ∷ 166 ∷ []) ∷
-    reply (6 ∷ 6 ∷ 128 ∷ 17 ∷ 166 ∷ 19 ∷ []) ∷
-    reply (6 ∷ 6 ∷ 131 ∷ 17 ∷ 206 ∷ 57 ∷ []) ∷
-    reply (6 ∷ 6 ∷ 128 ∷ 17 ∷ 166 ∷ 19 ∷ []) ∷
-    refused 2 ∷
-    reply (6 ∷ 6 ∷ 129 ∷ 17 ∷ 126 ∷ 10 ∷ []) ∷
-    reply (6 ∷ 6 ∷ 129 ∷ 0 ∷ 118 ∷ 11 ∷ []) ∷
-    reply (2 ∷ 0 ∷ 8 ∷ 6 ∷ 130 ∷ 17 ∷ 83 ∷ 141 ∷ []) ∷
-    reply (6 ∷ 6 ∷ 131 ∷ 17 ∷ 206 ∷ 57 ∷ []) ∷
+    reply (2 ∷ 0 ∷ 8 ∷ 6 ∷ 50 ∷ 0 ∷ 53 ∷ 182 ∷ []) ∷ reply (2 ∷ 0 ∷ 14 ∷ 6 ∷ 49 ∷ 0 ∷ 0 ∷ 64 ∷ 0 ∷ 4 ∷ 0 ∷ 0 ∷ 10 ∷ 118 ∷ []) ∷
+    refused 2 ∷ reply (2 ∷ 0 ∷ 8 ∷ 6 ∷ 50 ∷ 0 ∷ 53 ∷ 182 ∷ []) ∷ reply (12 ∷ 6 ∷ 49 ∷ 0 ∷ 0 ∷ 64 ∷ 0 ∷ 4 ∷ 0 ∷ 0 ∷ 89 ∷ 47 ∷ []) ∷
+    reply (6 ∷ 6 ∷ 34 ∷ 146 ∷ 122 ∷ 57 ∷ []) ∷ refused 3 ∷ reply (2 ∷ 0 ∷ 8 ∷ 1 ∷ 99 ∷ 0 ∷ 31 ∷ 240 ∷ []) ∷
+    reply (2 ∷ 0 ∷ 8 ∷ 0 ∷ 99 ∷ 0 ∷ 195 ∷ 170 ∷ []) ∷ reply (6 ∷ 6 ∷ 160 ∷ 0 ∷ 157 ∷ 49 ∷ []) ∷
+    reply (2 ∷ 0 ∷ 8 ∷ 6 ∷ 129 ∷ 0 ∷ 51 ∷ 166 ∷ []) ∷ reply (6 ∷ 6 ∷ 128 ∷ 17 ∷ 166 ∷ 19 ∷ []) ∷
+    reply (6 ∷ 6 ∷ 131 ∷ 17 ∷ 206 ∷ 57 ∷ []) ∷ reply (6 ∷ 6 ∷ 128 ∷ 17 ∷ 166 ∷ 19 ∷ []) ∷ refused 2 ∷
+    reply (6 ∷ 6 ∷ 129 ∷ 17 ∷ 126 ∷ 10 ∷ []) ∷ reply (6 ∷ 6 ∷ 129 ∷ 0 ∷ 118 ∷ 11 ∷ []) ∷
+    reply (2 ∷ 0 ∷ 8 ∷ 6 ∷ 130 ∷ 17 ∷ 83 ∷ 141 ∷ []) ∷ reply (6 ∷ 6 ∷ 131 ∷ 17 ∷ 206 ∷ 57 ∷ []) ∷
     reply (20 ∷ 6 ∷ 128 ∷ 0 ∷ 0 ∷ 0 ∷ 0 ∷ 0 ∷ 0 ∷ 0 ∷ 0 ∷ 0 ∷ 0 ∷ 0 ∷ 0 ∷ 0 ∷ 0 ∷ 0 ∷ 181 ∷ 156 ∷ []) ∷
     reply (20 ∷ 6 ∷ 128 ∷ 0 ∷ 0 ∷ 0 ∷ 0 ∷ 0 ∷ 0 ∷ 0 ∷ 0 ∷ 0 ∷ 0 ∷ 0 ∷ 0 ∷ 0 ∷ 0 ∷ 0 ∷ 181 ∷ 156 ∷ []) ∷
     reply (20 ∷ 6 ∷ 128 ∷ 0 ∷ 2 ∷ 32 ∷ 44 ∷ 1 ∷ 0 ∷ 0 ∷ 0 ∷ 0 ∷ 0 ∷ 0 ∷ 0 ∷ 0 ∷ 0 ∷ 0 ∷ 122 ∷ 165 ∷ []) ∷
     reply (2 ∷ 0 ∷ 22 ∷ 6 ∷ 128 ∷ 0 ∷ 2 ∷ 32 ∷ 44 ∷ 1 ∷ 0 ∷ 0 ∷ 0 ∷ 0 ∷ 0 ∷ 0 ∷ 0 ∷ 0 ∷ 0 ∷ 0 ∷ 213 ∷ 34 ∷ []) ∷
-    reply (20 ∷ 6 ∷ 128 ∷ 0 ∷ 0 ∷ 0 ∷ 0 ∷ 0 ∷ 0 ∷ 0 ∷ 0 ∷ 0 ∷ 0 ∷ 0 ∷ 0 ∷ 0 ∷ 0 ∷ 0 ∷ 181 ∷ 156 ∷ []) ∷
-    refused 2 ∷
+    reply (20 ∷ 6 ∷ 128 ∷ 0 ∷ 0 ∷ 0 ∷ 0 ∷ 0 ∷ 0 ∷ 0 ∷ 0 ∷ 0 ∷ 0 ∷ 0 ∷ 0 ∷ 0 ∷ 0 ∷ 0 ∷ 181 ∷ 156 ∷ []) ∷ refused 2 ∷
     reply (20 ∷ 6 ∷ 128 ∷ 0 ∷ 94 ∷ 211 ∷ 172 ∷ 191 ∷ 144 ∷ 204 ∷ 100 ∷ 2 ∷ 245 ∷ 209 ∷ 98 ∷ 61 ∷ 226 ∷ 128 ∷ 203 ∷ 201 ∷ []) ∷
-    refused 3 ∷
-    refused 2 ∷
-    refused 4 ∷
-    refused 5 ∷
-    reply (6 ∷ 1 ∷ 52 ∷ 128 ∷ 173 ∷ 71 ∷ []) ∷
-    reply (2 ∷ 0 ∷ 8 ∷ 1 ∷ 134 ∷ 129 ∷ 191 ∷ 242 ∷ []) ∷
-    reply (6 ∷ 1 ∷ 82 ∷ 17 ∷ 40 ∷ 243 ∷ []) ∷
-    refused 3 ∷
+    refused 3 ∷ refused 2 ∷ refused 4 ∷ refused 5 ∷ reply (6 ∷ 1 ∷ 52 ∷ 128 ∷ 173 ∷ 71 ∷ []) ∷
+    reply (2 ∷ 0 ∷ 8 ∷ 1 ∷ 134 ∷ 129 ∷ 191 ∷ 242 ∷ []) ∷ reply (6 ∷ 1 ∷ 82 ∷ 17 ∷ 40 ∷ 243 ∷ []) ∷ refused 3 ∷
     []
 
 pub agree : run freshBox events ≡ answers

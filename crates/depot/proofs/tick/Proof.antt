@@ -5,8 +5,8 @@ use borrow.Author.Needs.{needs}
 use Rattle.depot.proofs.tick.Statement.{statement}
 use Rattle.depot.proofs.tick.Tie as tie
 
-test-requires : tie.Need-test-requires
-test-requires c κs = search needs
+fit-requires : tie.Need-fit-requires
+fit-requires c κs = search needs
 
 same-length : tie.Need-same-length
 same-length c = search needs
@@ -27,4 +27,4 @@ returns-2 c =
     ticked-answered _ _ _ (passed (e .before .fit .ensures) (e .if1 .left)) (t .tick .ensures)
 
 pub tick-spec : {M : Type 1} → statement M
-tick-spec = tie.close (tie.spec test-requires same-length returns tick-requires same-length-2 returns-2)
+tick-spec = tie.close (tie.spec fit-requires same-length returns tick-requires same-length-2 returns-2)

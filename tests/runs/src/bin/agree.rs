@@ -171,11 +171,20 @@ impl Module {
             _ => serve(depot, event),
         };
         self.octets += octets_of(event, &answer);
-        self.events += &format!("    {} ∷\n", event_text(event, room));
-        self.answers += &format!("    {} ∷\n", answer_text(&answer));
+        append(&mut self.events, &event_text(event, room));
+        append(&mut self.answers, &answer_text(&answer));
         self.count += 1;
         self.met.count(&met(event, &answer));
     }
+}
+
+/// Adds an entry to a list: on the last line, or on a new one where that is long.
+fn append(list: &mut String, entry: &str) {
+    let last = list.lines().last().unwrap_or("").chars().count();
+    list.truncate(list.trim_end().len());
+    *list += if list.is_empty() { "    " } else if last + entry.chars().count() > 130 { "\n    " } else { " " };
+    *list += entry;
+    *list += " ∷\n";
 }
 
 /// The stories stand at its start, and the short ones now and then further on. Now and then a frame comes with too little room first.
