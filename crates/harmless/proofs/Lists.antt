@@ -5,6 +5,9 @@ use mathlib.Core.Path.{_≡_, refl, ap}
 use mathlib.Core.Bool.{true}
 use mathlib.Core.List.{List, [], _∷_}
 use Rattle.frame.specs.Refusal.{numbersOf, rises}
+use Rattle.table.specs.Entries.{recordWidth}
+use Rattle.rules.specs.Config.{blockSize}
+use Rattle.host_c.specs.Coded.{notLong}
 use Rattle.typed.specs.Typed.{otherLength, countRefusals, recordRefusals}
 use Rattle.lines.specs.Lines.{lineRefusals, linesRefusals}
 use Rattle.fields.specs.Fields.{blockRefusals, timerRefusals, sizesRefusals, recordTests}
@@ -48,6 +51,17 @@ module _ (sent out : List ℕ) where
   unfolding countRefusals
   record-put-numbers i = refl
 
+-- the line writer for C: 6 for a record or a block of another length comes first
+module _ (block : List ℕ) where
+  pub line-as-numbers : (sighted text : List ℕ) (room : ℕ)
+      → numbersOf (notLong recordWidth sighted ∷ notLong blockSize block ∷ lineRefusals block text room) ≡ 6 ∷ 6 ∷ 6 ∷ 7 ∷ []
+  unfolding notLong lineRefusals
+  line-as-numbers sighted text room = refl
+
+  pub lines-as-numbers : (sent : List ℕ) (room : ℕ) → numbersOf (notLong blockSize block ∷ linesRefusals block sent room) ≡ 6 ∷ 6 ∷ 6 ∷ 7 ∷ []
+  unfolding notLong linesRefusals
+  lines-as-numbers sent room = refl
+
 -- ---- and they rise
 
 pub line-rises : (block text : List ℕ) (room : ℕ) → rises (numbersOf (lineRefusals block text room)) ≡ true
@@ -55,6 +69,29 @@ line-rises block text room = rw (line-numbers block text room)
 
 pub lines-rises : (block sent : List ℕ) (room : ℕ) → rises (numbersOf (linesRefusals block sent room)) ≡ true
 lines-rises block sent room = rw (lines-numbers block sent room)
+
+pub typed-rises : (size : ℕ) (sent : List ℕ) → rises (numbersOf (otherLength size sent)) ≡ true
+typed-rises size sent = ap rises (typed-numbers size sent)
+
+pub count-rises : (sent : List ℕ) → rises (numbersOf (countRefusals sent)) ≡ true
+count-rises sent = ap rises (count-numbers sent)
+
+module _ (sent out : List ℕ) where
+  pub block-put-rises : rises (numbersOf (blockRefusals sent out)) ≡ true
+  block-put-rises = ap rises (block-put-numbers sent out)
+
+  pub timer-put-rises : rises (numbersOf (timerRefusals sent out)) ≡ true
+  timer-put-rises = ap rises (timer-put-numbers sent out)
+
+  pub sizes-put-rises : rises (numbersOf (sizesRefusals sent out)) ≡ true
+  sizes-put-rises = ap rises (sizes-put-numbers sent out)
+
+pub line-as-rises : (block sighted text : List ℕ) (room : ℕ)
+    → rises (numbersOf (notLong recordWidth sighted ∷ notLong blockSize block ∷ lineRefusals block text room)) ≡ true
+line-as-rises block sighted text room = ap rises (line-as-numbers block sighted text room)
+
+pub lines-as-rises : (block sent : List ℕ) (room : ℕ) → rises (numbersOf (notLong blockSize block ∷ linesRefusals block sent room)) ≡ true
+lines-as-rises block sent room = ap rises (lines-as-numbers block sent room)
 
 pub record-rises : (sent : List ℕ) (i : ℕ) → rises (numbersOf (recordRefusals sent i)) ≡ true
 record-rises sent i = rw (record-numbers sent i)

@@ -13,8 +13,9 @@ use Rattle.text.specs.Listing.{longestLine}
 use Rattle.answering.proofs.Room.{answered-text}
 use Rattle.feeding.specs.declared.Begun.{Begun}
 use Rattle.feeding.specs.Feeding.{readOff, ReadOff}
-use Rattle.taking.specs.Taking.{State, Takes, roomy, Took, Ends, TookPart, Finished}
-use Rattle.taking.proofs.Turns.{takes-within}
+use Rattle.turning.specs.Turning.{State, Takes, Ends}
+use Rattle.taking.specs.Taking.{roomy, Took, TookPart, Finished}
+use Rattle.turning.proofs.Turns.{takes-within}
 
 pub record Bounds (part : List ℕ) (n : ℕ) (b : State) : Type 0 where
   pub most : n ≤ length part

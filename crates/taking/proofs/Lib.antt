@@ -1,4 +1,4 @@
-pub mod Turns
+pub mod Onward
 pub mod Listens
 pub mod Whole
 pub mod Bounds

@@ -20,9 +20,10 @@ use Rattle.answering.proofs.Meaning.{Means, answered-means}
 use Rattle.feeding.specs.declared.Begun.{Begun}
 use Rattle.feeding.specs.Feeding.{Fed}
 use Rattle.feeding.proofs.Feeding.{fed-none}
-use Rattle.taking.specs.Taking.{State, LineEnds, LineGoesOn, Takes, roomy, Took}
+use Rattle.turning.specs.Turning.{State, LineEnds, LineGoesOn, Takes}
+use Rattle.taking.specs.Taking.{roomy, Took}
 use Rattle.taking.specs.Listed.{waits, Listening}
-use Rattle.taking.proofs.Turns.{answer-short}
+use Rattle.turning.proofs.Turns.{answer-short}
 
 -- ---- the lines of an input, an octet more
 

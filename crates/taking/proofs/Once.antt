@@ -13,7 +13,8 @@ use Rattle.depot.proofs.Once.{AsOne, kept-once}
 use Rattle.answering.proofs.Once.{Same as Printing, answered-once}
 use Rattle.feeding.specs.declared.Begun.{Begun}
 use Rattle.feeding.specs.Feeding.{readOff, ReadOff}
-use Rattle.taking.specs.Taking.{State, lent, LineEnds, LineGoesOn, Takes, roomy, Took, Ends, TookPart, Finished}
+use Rattle.turning.specs.Turning.{State, lent, LineEnds, LineGoesOn, Takes, Ends}
+use Rattle.taking.specs.Taking.{roomy, Took, TookPart, Finished}
 
 -- the state with another store
 abbrev pub stored : State → List ℕ → State

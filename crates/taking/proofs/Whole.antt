@@ -20,9 +20,10 @@ use Rattle.text.specs.Whole.{lastLine, linesFrom, said, printedFrom, listing}
 use Rattle.answering.proofs.Meaning.{Means, answered-means}
 use Rattle.feeding.specs.declared.Begun.{Begun}
 use Rattle.feeding.specs.Feeding.{Fed, Starts, heldRoom, ReadOff}
-use Rattle.taking.specs.Taking.{State, Ends, Sized, Finished}
+use Rattle.turning.specs.Turning.{State, Ends}
+use Rattle.taking.specs.Taking.{Sized, Finished}
 use Rattle.taking.specs.Listed.{waits, Listening, anew, Turn, Ran, heard, sent, Listed}
-use Rattle.taking.proofs.Turns.{answer-short}
+use Rattle.turning.proofs.Turns.{answer-short}
 use Rattle.taking.proofs.Listens.{part-listens}
 
 -- ---- calls one after the other

@@ -12,7 +12,8 @@ use Rattle.depot.specs.declared.Answer.the-variants.{Done}
 use Rattle.depot.specs.Called.{Made}
 use Rattle.text.specs.Whole.{linesFrom, printedFrom, listing}
 use Rattle.feeding.specs.Feeding.{Fed, Starts, heldRoom}
-use Rattle.taking.specs.Taking.{State, lent, TookPart, Finished}
+use Rattle.turning.specs.Turning.{State, lent}
+use Rattle.taking.specs.Taking.{TookPart, Finished}
 
 -- ---- in the midst of it
 

@@ -1,52 +1,15 @@
--- An input is taken in lent parts: what each octet does, what a call takes of its part, and how the input ends. Assumes nothing.
+-- An input is taken in lent parts: what a call takes of its part, and how the input ends. Assumes nothing.
 use Prim.Native.Nat.{ℕ, suc, _+_}
 use mathlib.Core.Path.{_≡_}
 use mathlib.Core.Bool.{Bool, cond}
 use mathlib.Core.List.{List, [], _∷_}
-use lib.ListN.{length, drop}
-use lib.Dec.{eqb, leb}
-use Rattle.octets.specs.Parts.{put}
+use lib.ListN.{length}
+use lib.Dec.{leb}
 use Rattle.frame.specs.Shape.{replyRoom}
 use Rattle.text.specs.Listing.{longestLine}
-use Rattle.text.specs.Whole.{lf}
 use Rattle.feeding.specs.declared.Begun.{Begun}
-use Rattle.feeding.specs.Feeding.{noneFed, Feeds, heldRoom, ReadOff}
-
--- what a call carries and what it is lent: the line that is begun and how many octets are written to the output; the octets held of
--- the line, store, reply buffer and output
-pub record State : Type 0 where
-  pub line : Begun
-  pub written : ℕ
-  pub held : List ℕ
-  pub store : List ℕ
-  pub reply : List ℕ
-  pub out : List ℕ
-
-abbrev pub lent : Begun → ℕ → List ℕ → List ℕ → List ℕ → List ℕ → State
-lent line written held store reply out =
-    record { line = line; written = written; held = held; store = store; reply = reply; out = out }
-
--- a line ends: it is answered behind what is written, and the next one begins
-pub record LineEnds (a b : State) : Type 0 where
-  pub count : ℕ
-  pub rest : List ℕ
-  pub answered : ReadOff (a .line) (a .held) (a .store) (a .reply) (drop (a .written) (a .out)) count (b .store) (b .reply) rest
-  pub out-is : b .out ≡ put (a .written) rest (a .out)
-  pub written-is : b .written ≡ a .written + count
-  pub line-is : b .line ≡ noneFed
-  pub held-is : b .held ≡ a .held
-
--- a line goes on: the octet is fed, and nothing else changes
-pub record LineGoesOn (c : ℕ) (a b : State) : Type 0 where
-  pub feeds : Feeds c (a .line) (a .held) (b .line) (b .held)
-  pub written-is : b .written ≡ a .written
-  pub store-is : b .store ≡ a .store
-  pub reply-is : b .reply ≡ a .reply
-  pub out-is : b .out ≡ a .out
-
--- lines end with LF
-unfoldable pub Takes : ℕ → State → State → Type 0
-Takes c a b = cond (eqb c lf) (LineEnds a b) (LineGoesOn c a b)
+use Rattle.feeding.specs.Feeding.{heldRoom}
+use Rattle.turning.specs.Turning.{State, Takes, Ends}
 
 -- whether the output has room for any line more
 unfoldable pub roomy : State → Bool
@@ -57,11 +20,6 @@ unfoldable pub Took : List ℕ → State → ℕ → State → Type 0
 Took [] a n b = (n ≡ 0) × (b ≡ a)
 Took (c ∷ part) a n b =
     cond (roomy a) ((m : State) × (k : ℕ) × (n ≡ suc k) × Takes c a m × Took part m k b) ((n ≡ 0) × (b ≡ a))
-
--- a last line without LF that is not empty is answered
-unfoldable pub Ends : Begun → List ℕ → List ℕ → List ℕ → List ℕ → ℕ → List ℕ → List ℕ → List ℕ → Type 0
-Ends line held s reply out n s′ reply′ out′ =
-    cond (eqb (line .held) 0) ((n ≡ 0) × (s′ ≡ s) × (reply′ ≡ reply) × (out′ ≡ out)) (ReadOff line held s reply out n s′ reply′ out′)
 
 -- ---- the calls, whose buffers are arrays
 

@@ -5,8 +5,9 @@ use native.Mathlib.Omega.{arith}
 use borrow.Author.Needs.{needs}
 use lib.ListN.{length}
 use Rattle.text.specs.Listing.{longestLine}
-use Rattle.taking.specs.Taking.{lent}
-use Rattle.taking.proofs.Turns.{Onward, onward-none, onward-more, takes-within, took-end, took-full}
+use Rattle.turning.specs.Turning.{lent}
+use Rattle.turning.proofs.Turns.{takes-within}
+use Rattle.taking.proofs.Onward.{Onward, onward-none, onward-more, took-end, took-full}
 use Rattle.taking.proofs.take_all.Statement.{statement}
 use Rattle.taking.proofs.take_all.Tie as tie
 

@@ -1,10 +1,10 @@
--- `taking::take` meets its contract. Assumes nothing.
+-- `turning::take` meets its contract. Assumes nothing.
 use mathlib.Core.Path.{refl}
 use native.Mathlib.Omega.{arith}
 use borrow.Author.Needs.{needs}
-use Rattle.taking.proofs.Turns.{goes-on, answer-short, ends}
-use Rattle.taking.proofs.take.Statement.{statement}
-use Rattle.taking.proofs.take.Tie as tie
+use Rattle.turning.proofs.Turns.{goes-on, answer-short, ends}
+use Rattle.turning.proofs.take.Statement.{statement}
+use Rattle.turning.proofs.take.Tie as tie
 
 returns : tie.Need-returns
 returns c =

@@ -1,9 +1,9 @@
--- `taking::last_line` meets its contract. Assumes nothing.
+-- `turning::last_line` meets its contract. Assumes nothing.
 use native.Mathlib.Omega.{arith}
 use borrow.Author.Needs.{needs}
-use Rattle.taking.proofs.Turns.{none-left, one-left}
-use Rattle.taking.proofs.last_line.Statement.{statement}
-use Rattle.taking.proofs.last_line.Tie as tie
+use Rattle.turning.proofs.Turns.{none-left, one-left}
+use Rattle.turning.proofs.last_line.Statement.{statement}
+use Rattle.turning.proofs.last_line.Tie as tie
 
 returns : tie.Need-returns
 returns c = none-left _ _ _ _ _ (omega (arith, c .if1 .taken))
