@@ -18,13 +18,13 @@ ghost use Rattle.octets.specs.Parts.{put};
 ghost use Rattle.fields.specs.Fields.{timerFields, sizesFields, recordFields, BlockPut, TimerPut, SizesPut, RecordPut};
 
 // Hour, minute, milliseconds.
-pub const TIMER: usize = 3;
+pub const TIMER_FIELDS: usize = 3;
 
 // TAB-SIZE, TAB-START, TAB-LEN.
-pub const SIZES: usize = 3;
+pub const SIZES_FIELDS: usize = 3;
 
 // UID, hour, minute, milliseconds, antenna mask.
-pub const RECORD: usize = 5;
+pub const RECORD_FIELDS: usize = 5;
 
 // Writes three numbers.
 fn put_three(out: &mut [u64], a: u64, b: u64, c: u64)
@@ -85,14 +85,14 @@ pub fn block(sent: &[u8], out: &mut [u8]) -> Written
 pub fn timer(sent: &[u8], out: &mut [u64]) -> Written
     ensures { λ r. ⌜ TimerPut (now (sent .entry)) (now (out .entry)) r (now (out .exit)) ⌝ }
 {
-    if out.len() < TIMER {
+    if out.len() < TIMER_FIELDS {
         return Written::Refused(Refusal::NoRoom);
     }
     match typed::timer_in(sent) {
         TimerTold::Refused(r) => Written::Refused(r),
         TimerTold::Timer(t) => {
             put_timer(t, out);
-            Written::Octets(TIMER)
+            Written::Octets(TIMER_FIELDS)
         }
     }
 }
@@ -101,14 +101,14 @@ pub fn timer(sent: &[u8], out: &mut [u64]) -> Written
 pub fn sizes(sent: &[u8], out: &mut [u64]) -> Written
     ensures { λ r. ⌜ SizesPut (now (sent .entry)) (now (out .entry)) r (now (out .exit)) ⌝ }
 {
-    if out.len() < SIZES {
+    if out.len() < SIZES_FIELDS {
         return Written::Refused(Refusal::NoRoom);
     }
     match typed::sizes_in(sent) {
         SizesTold::Refused(r) => Written::Refused(r),
         SizesTold::Sizes(s) => {
             put_sizes(s, out);
-            Written::Octets(SIZES)
+            Written::Octets(SIZES_FIELDS)
         }
     }
 }
@@ -120,14 +120,14 @@ pub fn record(sent: &[u8], i: usize, out: &mut [u64]) -> Written
     if i >= records_for(sent.len()) {
         return Written::Refused(Refusal::OutOfRange);
     }
-    if out.len() < RECORD {
+    if out.len() < RECORD_FIELDS {
         return Written::Refused(Refusal::NoRoom);
     }
     match typed::record_in(sent, i) {
         RecordTold::Refused(r) => Written::Refused(r),
         RecordTold::Record(s) => {
             put_record(s, out);
-            Written::Octets(RECORD)
+            Written::Octets(RECORD_FIELDS)
         }
     }
 }
