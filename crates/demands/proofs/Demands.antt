@@ -1,6 +1,6 @@
 -- The user's three demands, a theorem for each of their sentences, over the promises of the calls. Assumes nothing.
 use Prim.Native.Nat.{ℕ, _≤_, _<_}
-use mathlib.Core.Path.{_≡_, subst}
+use mathlib.Core.Path.{_≡_, refl, subst}
 use mathlib.Core.Bool.{Bool, true, false, cond, not}
 use mathlib.Core.List.{List}
 use mathlib.Core.Logic.{_⊎_, inl, inr}
@@ -24,7 +24,7 @@ use Rattle.store.specs.View.{view}
 use Rattle.store.specs.Sound.{sound}
 use Rattle.depot.specs.declared.Answer.{Answer}
 use Rattle.depot.specs.declared.Answer.the-variants.{Refused, Done}
-use Rattle.depot.specs.Called.{Called, freshRefusals, MadeOf, Made}
+use Rattle.depot.specs.Called.{Called, testRefusals, TestedOf, Tested, freshRefusals, MadeOf, Made}
 use Rattle.requests.specs.declared.Request.{Request}
 use Rattle.maker.specs.Maker.{Requested}
 use Rattle.demands.specs.History.{Deed, eventsOf, History}
@@ -40,6 +40,15 @@ use Rattle.demands.proofs.HostAndBox.{host-hears, made-frame, made-carr
 pub nothing-harms : (e : Event) (s out : List ℕ) (a : Answer) (s′ out′ : List ℕ) → Called e s out a s′ out′
     → (ofItsKind e a ≡ true) × ((r : Refusal) → a ≡ Refused r → (first (testsOf s e) ≡ some (numberOf r)) × (s′ ≡ s) × (out′ ≡ out))
 nothing-harms e s out a s′ out′ c = (always-of-kind e s out a s′ out′ c, λ r q. refused-first e s out a s′ out′ c r q)
+
+-- a store is sound and the test says so, or it is refused with 1
+pub sound-or-refused : (s : List ℕ) (a : Answer) → Tested s a → ((sound s ≡ true) × (a ≡ Done)) ⊎ ((sound s ≡ false) × Refuses Refused 1 a)
+unfolding testRefusals first
+sound-or-refused s a t = go (sound s) (t .tested)
+  where
+    go : (b : Bool) → TestedOf (cond (not b) (some 1) none) a → ((b ≡ true) × (a ≡ Done)) ⊎ ((b ≡ false) × Refuses Refused 1 a)
+    go true p = inl (refl, p)
+    go false p = inr (refl, p)
 
 -- a buffer is made fresh, or refused with 1 and kept
 pub fresh-or-kept : (s : List ℕ) (a : Answer) (s′ : List ℕ) → Made s a s′ → ((a ≡ Done) × (s′ ≡ freshStore)) ⊎ (Refuses Refused 1 a × (s′ ≡ s))

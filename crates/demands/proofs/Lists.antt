@@ -1,5 +1,5 @@
--- The numbers that each call can give, exactly and in rising order: frames 1 to 5, sightings 1, 5, 6, ticks 1, a fresh store 1, the maker
--- 5, 6, 7, the reader 3, 4, 8. Assumes nothing.
+-- The numbers that each call can give, exactly and in rising order: frames 1 to 5, sightings 1, 5, 6, ticks 1, the test of a store 1, a
+-- fresh store 1, the maker 5, 6, 7, the reader 3, 4, 8. Assumes nothing.
 use Prim.Native.Nat.{ℕ}
 use mathlib.Core.Path.{_≡_, refl}
 use mathlib.Core.Bool.{true}
@@ -7,7 +7,7 @@ use mathlib.Core.List.{List, [], _∷_}
 use Rattle.frame.specs.Refusal.{numbersOf, rises}
 use Rattle.frame.specs.Judged.{faults}
 use Rattle.rules.specs.Box.{Event, frame, sighting, tick, frameRefusals, sightingRefusals}
-use Rattle.depot.specs.Called.{freshRefusals}
+use Rattle.depot.specs.Called.{testRefusals, freshRefusals}
 use Rattle.requests.specs.declared.Request.{Request}
 use Rattle.maker.specs.Maker.{makerRefusals}
 use Rattle.reader.specs.Reader.{readerRefusals}
@@ -25,6 +25,10 @@ sighting-numbers s n uid mask = refl
 pub tick-numbers : (s : List ℕ) → numbersOf (testsOf s tick) ≡ 1 ∷ []
 unfolding testsOf
 tick-numbers s = refl
+
+pub test-numbers : (s : List ℕ) → numbersOf (testRefusals s) ≡ 1 ∷ []
+unfolding testRefusals
+test-numbers s = refl
 
 pub fresh-numbers : (s : List ℕ) → numbersOf (freshRefusals s) ≡ 1 ∷ []
 unfolding freshRefusals
@@ -44,6 +48,9 @@ pub event-rises : (s : List ℕ) (e : Event) → rises (numbersOf (testsOf s e))
 event-rises s (frame f room) = rw (frame-numbers s f room)
 event-rises s (sighting n uid mask) = rw (sighting-numbers s n uid mask)
 event-rises s tick = rw (tick-numbers s)
+
+pub test-rises : (s : List ℕ) → rises (numbersOf (testRefusals s)) ≡ true
+test-rises s = rw (test-numbers s)
 
 pub fresh-rises : (s : List ℕ) → rises (numbersOf (freshRefusals s)) ≡ true
 fresh-rises s = rw (fresh-numbers s)
