@@ -28,7 +28,7 @@ use Rattle.depot.specs.Called.{Called, testRefusals, TestedOf, Tested, freshRef
 use Rattle.requests.specs.declared.Request.{Request}
 use Rattle.maker.specs.Maker.{Requested}
 use Rattle.demands.specs.History.{Deed, eventsOf, History}
-use Rattle.demands.specs.Answers.{testsOf, ofItsKind, GaveAll, heardBy}
+use Rattle.demands.specs.Answers.{heard, testsOf, ofItsKind, GaveAll, heardBy}
 use Rattle.demands.specs.Exchange.{ReadBack}
 use Rattle.demands.proofs.Steps.{lived}
 use Rattle.demands.proofs.Listed.{refused-first, always-of-kind}
@@ -38,7 +38,7 @@ use Rattle.demands.proofs.HostAndBox.{host-hears, made-frame, made-carr
 -- 1. Nothing harms the box: any octets, any numbers, any store. The answer is of the event's kind, or the first refusal of its list that is
 -- given; and a refused call writes nothing
 pub nothing-harms : (e : Event) (s out : List ℕ) (a : Answer) (s′ out′ : List ℕ) → Called e s out a s′ out′
-    → (ofItsKind e a ≡ true) × ((r : Refusal) → a ≡ Refused r → (first (testsOf s e) ≡ some (numberOf r)) × (s′ ≡ s) × (out′ ≡ out))
+    → (ofItsKind e (heard a out′) ≡ true) × ((r : Refusal) → a ≡ Refused r → (first (testsOf s e) ≡ some (numberOf r)) × (s′ ≡ s) × (out′ ≡ out))
 nothing-harms e s out a s′ out′ c = (always-of-kind e s out a s′ out′ c, λ r q. refused-first e s out a s′ out′ c r q)
 
 -- a store is sound and the test says so, or it is refused with 1

@@ -15,8 +15,8 @@ use Rattle.store.specs.View.{view}
 use Rattle.store.specs.Sound.{sound}
 use Rattle.depot.specs.declared.Answer.{Answer}
 use Rattle.depot.specs.declared.Answer.the-variants.{Refused, Reply, Sighted, Done}
-use Rattle.depot.specs.Called.{stepOn, Ended, Called}
-use Rattle.demands.specs.Answers.{testsOf, ofItsKind}
+use Rattle.depot.specs.Called.{stepOn, Ended, Called, testRefusals}
+use Rattle.demands.specs.Answers.{heard, refusalsOf, testsOf, ofItsKind}
 
 -- ---- a refused call: the rules refuse with that number, and it writes nothing
 
@@ -31,19 +31,13 @@ module _ (box : Box) (s out : List ℕ) (a : Answer) (s′ out′ : List ℕ) (r
 
 -- ---- the rules refuse with the first number of the event's list that is given
 
--- the tests that come after that of the store
-abbrev after1 : Event → List (ℕ × Bool)
-after1 (frame f room) = frameRefusals f room
-after1 (sighting n uid mask) = sightingRefusals n mask
-after1 tick = []
-
 unless-first : (o : Option ℕ) (box : Box) (st : Step) (n : ℕ) → ((k : ℕ) → st .answer ≡ refused k → ⊥) → unlessRefused o box st .answer ≡ refused n → o ≡ some n
 unfolding unlessRefused
 unless-first none box st n never e = absurd (never n e)
 unless-first (some k) box st n never e = cc
 
-step-first : (box : Box) (e : Event) (n : ℕ) → step box e .answer ≡ refused n → first (after1 e) ≡ some n
-unfolding step placed
+step-first : (box : Box) (e : Event) (n : ℕ) → step box e .answer ≡ refused n → first (refusalsOf e) ≡ some n
+unfolding step placed refusalsOf
 step-first box (frame f room) n e =
     unless-first (first (frameRefusals f room)) box (placed box (request f .address) (served f (deskAt box (request f .address)))) n
     (λ k q. unfold served in let z : _≡_ {A = ℕ} 0 1 = cc in omega arith) e
@@ -52,17 +46,11 @@ step-first box (sighting m uid mask) n e =
     (λ k q. unfold sighted in let z : _≡_ {A = ℕ} 0 1 = cc in omega arith) e
 step-first box tick n e = let z : _≡_ {A = ℕ} 0 1 = cc in absurd (omega arith)
 
-tests-are : (s : List ℕ) (e : Event) → testsOf s e ≡ (1, not (sound s)) ∷ after1 e
-unfolding testsOf
-tests-are s (frame f room) = refl
-tests-are s (sighting n uid mask) = refl
-tests-are s tick = refl
-
 on-first : (s : List ℕ) (e : Event) (n : ℕ) → stepOn s e .answer ≡ refused n → first (testsOf s e) ≡ some n
-unfolding stepOn first
-on-first s e n = rw (tests-are s e) (go (sound s))
+unfolding stepOn first testsOf testRefusals
+on-first s e n = go (sound s)
   where
-    go : (b : Bool) → cond b (step (view s) e) record { answer = refused 1; box = view s } .answer ≡ refused n → cond (not b) (some 1) (first (after1 e)) ≡ some n
+    go : (b : Bool) → cond b (step (view s) e) record { answer = refused 1; box = view s } .answer ≡ refused n → cond (not b) (some 1) (first (refusalsOf e)) ≡ some n
     go true q = step-first (view s) e n q
     go false q = cc
 
@@ -74,41 +62,28 @@ module _ (e : Event) (s out : List ℕ) (a : Answer) (s′ out′ : List ℕ) (c
 
 -- ---- every other answer is of the event's kind
 
--- in the rules
-ruleKind : Event → RuleAnswer → Bool
-ruleKind e (refused n) = true
-ruleKind (frame f room) (reply t) = true
-ruleKind (frame f room) (seen w) = false
-ruleKind (frame f room) ok = false
-ruleKind (sighting m uid mask) (reply t) = false
-ruleKind (sighting m uid mask) (seen w) = true
-ruleKind (sighting m uid mask) ok = false
-ruleKind tick (reply t) = false
-ruleKind tick (seen w) = false
-ruleKind tick ok = true
-
-unless-kind : (e : Event) (o : Option ℕ) (box : Box) (st : Step) → ruleKind e (st .answer) ≡ true → ruleKind e (unlessRefused o box st .answer) ≡ true
-unfolding unlessRefused ruleKind
+unless-kind : (e : Event) (o : Option ℕ) (box : Box) (st : Step) → ofItsKind e (st .answer) ≡ true → ofItsKind e (unlessRefused o box st .answer) ≡ true
+unfolding unlessRefused ofItsKind
 unless-kind e none box st h = h
 unless-kind e (some n) box st h = refl
 
-step-kind : (box : Box) (e : Event) → ruleKind e (step box e .answer) ≡ true
+step-kind : (box : Box) (e : Event) → ofItsKind e (step box e .answer) ≡ true
 unfolding step placed
-step-kind box (frame f room) = unless-kind (frame f room) (first (frameRefusals f room)) box _ (unfold served ruleKind in refl)
-step-kind box (sighting m uid mask) = unless-kind (sighting m uid mask) (first (sightingRefusals m mask)) box _ (unfold sighted ruleKind in refl)
-step-kind box tick = unfold ruleKind in refl
+step-kind box (frame f room) = unless-kind (frame f room) (first (frameRefusals f room)) box _ (unfold served ofItsKind in refl)
+step-kind box (sighting m uid mask) = unless-kind (sighting m uid mask) (first (sightingRefusals m mask)) box _ (unfold sighted ofItsKind in refl)
+step-kind box tick = unfold ofItsKind in refl
 
-on-kind : (s : List ℕ) (e : Event) → ruleKind e (stepOn s e .answer) ≡ true
+on-kind : (s : List ℕ) (e : Event) → ofItsKind e (stepOn s e .answer) ≡ true
 unfolding stepOn
 on-kind s e = go (sound s)
   where
-    go : (b : Bool) → ruleKind e (cond b (step (view s) e) record { answer = refused 1; box = view s } .answer) ≡ true
+    go : (b : Bool) → ofItsKind e (cond b (step (view s) e) record { answer = refused 1; box = view s } .answer) ≡ true
     go true = step-kind (view s) e
-    go false = unfold ruleKind in refl
+    go false = unfold ofItsKind in refl
 
 module _ (box : Box) (s out : List ℕ) (a : Answer) (s′ out′ : List ℕ) where
-  ended-kind : (e : Event) (t : RuleAnswer) → Ended t box s out a s′ out′ → ruleKind e t ≡ ofItsKind e a
-  unfolding ruleKind ofItsKind
+  ended-kind : (e : Event) (t : RuleAnswer) → Ended t box s out a s′ out′ → ofItsKind e t ≡ ofItsKind e (heard a out′)
+  unfolding ofItsKind
   ended-kind e (refused n) p = rw (p .0 .answer-is)
   ended-kind (frame f room) (reply t) p = rw (p .0)
   ended-kind (frame f room) (seen w) p = rw (p .0)
@@ -120,5 +95,5 @@ module _ (box : Box) (s out : List ℕ) (a : Answer) (s′ out′ : List ℕ) wh
   ended-kind tick (seen w) p = rw (p .0)
   ended-kind tick ok p = rw (p .0)
 
-pub always-of-kind : (e : Event) (s out : List ℕ) (a : Answer) (s′ out′ : List ℕ) → Called e s out a s′ out′ → ofItsKind e a ≡ true
+pub always-of-kind : (e : Event) (s out : List ℕ) (a : Answer) (s′ out′ : List ℕ) → Called e s out a s′ out′ → ofItsKind e (heard a out′) ≡ true
 always-of-kind e s out a s′ out′ c = sym (ended-kind (stepOn s e .box) s out a s′ out′ e (stepOn s e .answer) (c .ended)) ∙ on-kind s e

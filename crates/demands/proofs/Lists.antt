@@ -11,19 +11,19 @@ use Rattle.depot.specs.Called.{testRefusals, freshRefusals}
 use Rattle.requests.specs.declared.Request.{Request}
 use Rattle.maker.specs.Maker.{makerRefusals}
 use Rattle.reader.specs.Reader.{readerRefusals}
-use Rattle.demands.specs.Answers.{testsOf}
+use Rattle.demands.specs.Answers.{refusalsOf, testsOf}
 
 -- 3 stands for each of the paper's three lengths
 pub frame-numbers : (s f : List ℕ) (room : ℕ) → numbersOf (testsOf s (frame f room)) ≡ 1 ∷ 2 ∷ 3 ∷ 3 ∷ 3 ∷ 4 ∷ 5 ∷ []
-unfolding testsOf frameRefusals faults
+unfolding testsOf testRefusals refusalsOf frameRefusals faults
 frame-numbers s f room = refl
 
 pub sighting-numbers : (s : List ℕ) (n uid mask : ℕ) → numbersOf (testsOf s (sighting n uid mask)) ≡ 1 ∷ 5 ∷ 6 ∷ []
-unfolding testsOf sightingRefusals
+unfolding testsOf testRefusals refusalsOf sightingRefusals
 sighting-numbers s n uid mask = refl
 
 pub tick-numbers : (s : List ℕ) → numbersOf (testsOf s tick) ≡ 1 ∷ []
-unfolding testsOf
+unfolding testsOf testRefusals refusalsOf
 tick-numbers s = refl
 
 pub test-numbers : (s : List ℕ) → numbersOf (testRefusals s) ≡ 1 ∷ []

@@ -1,38 +1,49 @@
 -- What a call answers, beside what the rules answer. Assumes nothing.
 use Prim.Native.Nat.{ℕ}
 use mathlib.Core.Path.{_≡_}
-use mathlib.Core.Bool.{Bool, true, false, cond, not}
-use mathlib.Core.List.{List, [], _∷_}
+use mathlib.Core.Bool.{Bool, true, false, cond}
+use mathlib.Core.List.{List, [], _∷_, _++_}
 use lib.ListN.{length, take}
 use Rattle.octets.specs.Parts.{put}
 use Rattle.frame.specs.Refusal.{numberOf, Refuses}
 use Rattle.rules.specs.Box.{Event, frame, sighting, tick, Answer as RuleAnswer, refused, reply, seen, ok, frameRefusals, sightingRefusals}
 use Rattle.rules.specs.Events.{concerns}
-use Rattle.store.specs.Sound.{sound}
 use Rattle.depot.specs.declared.Answer.{Answer}
 use Rattle.depot.specs.declared.Answer.the-variants.{Refused, Reply, Sighted, Done}
+use Rattle.depot.specs.Called.{testRefusals}
 use Rattle.demands.specs.History.{Deed, eventOf, lentTo}
+
+-- ---- what a caller hears, in the rules' words: a refusal by its number, a reply by its octets
+
+abbrev pub heard : Answer → List ℕ → RuleAnswer
+heard (Refused r) out = refused (numberOf r)
+heard (Reply n) out = reply (take n out)
+heard (Sighted w) out = seen w
+heard Done out = ok
 
 -- ---- demand 1: the tests of each call, in their order, and what it answers where none of them is given
 
--- frames can meet 1 to 5; sightings 1, 5, 6; ticks 1
+-- after that of the store frames can meet 2 to 5; sightings 5, 6; ticks none
+unfoldable pub refusalsOf : Event → List (ℕ × Bool)
+refusalsOf (frame f room) = frameRefusals f room
+refusalsOf (sighting n uid mask) = sightingRefusals n mask
+refusalsOf tick = []
+
 unfoldable pub testsOf : List ℕ → Event → List (ℕ × Bool)
-testsOf s (frame f room) = (1, not (sound s)) ∷ frameRefusals f room
-testsOf s (sighting n uid mask) = (1, not (sound s)) ∷ sightingRefusals n mask
-testsOf s tick = (1, not (sound s)) ∷ []
+testsOf s e = testRefusals s ++ refusalsOf e
 
 -- a frame is answered by a reply, a sighting by what it came to, a tick by ok; or the call is refused
-unfoldable pub ofItsKind : Event → Answer → Bool
-ofItsKind e (Refused r) = true
-ofItsKind (frame f room) (Reply n) = true
-ofItsKind (frame f room) (Sighted w) = false
-ofItsKind (frame f room) Done = false
-ofItsKind (sighting m uid mask) (Reply n) = false
-ofItsKind (sighting m uid mask) (Sighted w) = true
-ofItsKind (sighting m uid mask) Done = false
-ofItsKind tick (Reply n) = false
-ofItsKind tick (Sighted w) = false
-ofItsKind tick Done = true
+unfoldable pub ofItsKind : Event → RuleAnswer → Bool
+ofItsKind e (refused n) = true
+ofItsKind (frame f room) (reply t) = true
+ofItsKind (frame f room) (seen w) = false
+ofItsKind (frame f room) ok = false
+ofItsKind (sighting m uid mask) (reply t) = false
+ofItsKind (sighting m uid mask) (seen w) = true
+ofItsKind (sighting m uid mask) ok = false
+ofItsKind tick (reply t) = false
+ofItsKind tick (seen w) = false
+ofItsKind tick ok = true
 
 -- ---- demand 2: the rules' answer, as the call gives it; a reply stands at the start of the output, and the octets after it stay
 
@@ -49,13 +60,7 @@ GaveAll [] (d ∷ ds) = ⊥
 GaveAll (a ∷ more) [] = ⊥
 GaveAll (a ∷ more) (d ∷ ds) = Gave a d × GaveAll more ds
 
--- ---- demand 3: what a desk hears of a history, in the rules' words: a refusal by its number, a reply by its octets
-
-abbrev pub heard : Answer → List ℕ → RuleAnswer
-heard (Refused r) out = refused (numberOf r)
-heard (Reply n) out = reply (take n out)
-heard (Sighted w) out = seen w
-heard Done out = ok
+-- ---- demand 3: what a desk hears of a history
 
 abbrev pub heardOf : Deed → RuleAnswer
 heardOf d = heard (d .answer) (d .output)
