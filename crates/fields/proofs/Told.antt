@@ -19,16 +19,8 @@ use Rattle.rules.specs.Output.{Wrote}
 use Rattle.rules.specs.Records.{recordsFor}
 use Rattle.typed.specs.declared.Sighting.{Sighting}
 use Rattle.typed.specs.Typed.{refused, says, unless, otherLength, recordRefusals, recordTold, countRefusals}
-use Rattle.fields.specs.Fields.{noRoom, recordTests}
-
--- what was told, and why not
-unless-says : {A : Type 0} (o : Option ℕ) (a b : A) → says b ≡ unless o a → (o ≡ none) × (b ≡ a)
-unless-says none a b e = (refl, cc)
-unless-says (some n) a b e = let z : _≡_ {A = ℕ} 0 1 = cc in absurd (omega arith)
-
-unless-refused : {A : Type 0} (o : Option ℕ) (a : A) (n : ℕ) → refused n ≡ unless o a → o ≡ some n
-unless-refused none a n e = let z : _≡_ {A = ℕ} 0 1 = cc in absurd (omega arith)
-unless-refused (some m) a n e = cc
+use Rattle.typed.proofs.Telling.{unless-says, unless-refused}
+use Rattle.fields.specs.Fields.{noRoom, putRecordRefusals}
 
 -- so many numbers, of tests that come after that of the room
 module _ {A : Type 0} (n : ℕ) (ts : List (ℕ × Bool)) (f : A → List ℕ) (a : A) (out : List ℕ) where
@@ -47,23 +39,14 @@ module _ {A : Type 0} (n : ℕ) (ts : List (ℕ × Bool)) (f : A → List ℕ) (
         let u = unless-says (first ts) a b e in
         rw (le-ltb _ _ room, u .0) (record { outcome = (ap Octets l, o ∙ ap (λ (x : A). put 0 (f x) out) (u .1)) })
 
--- what was told of data of that length has that length
-pub right : (size : ℕ) (sent b : List ℕ) → says b ≡ unless (first (otherLength size sent)) sent → length sent ≡ size
-unfolding first otherLength
-right size sent b e = go (eqb (length sent) size) refl e
-  where
-    go : (t : Bool) → eqb (length sent) size ≡ t → says b ≡ unless (cond (not t) (some 8) none) sent → length sent ≡ size
-    go true q e = eqb-true _ _ q
-    go false q e = let z : _≡_ {A = ℕ} 0 1 = cc in absurd (omega arith)
-
 -- ---- record i, whose first test is that it is not beyond the last
 
 module _ (sent : List ℕ) (i : ℕ) (t out : List ℕ) where
-  pub beyond : recordsFor (length sent) ≤ i → Wrote (first (recordTests sent i out)) t out (Refused OutOfRange) out
+  pub beyond : recordsFor (length sent) ≤ i → Wrote (first (putRecordRefusals sent i out)) t out (Refused OutOfRange) out
   unfolding first
   beyond h = rw (le-leb _ _ h) (record { outcome = (refuses Refused OutOfRange, refl) })
 
-  pub within : (h : i < recordsFor (length sent)) → first (recordTests sent i out) ≡ first (noRoom 5 out ∷ countRefusals sent)
+  pub within : (h : i < recordsFor (length sent)) → first (putRecordRefusals sent i out) ≡ first (noRoom 5 out ∷ countRefusals sent)
   unfolding first
   within h = rw (lt-leb _ _ h)
 

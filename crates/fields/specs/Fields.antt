@@ -1,22 +1,19 @@
 -- What the data of a reply say, as numbers in a lent output. Assumes nothing.
-use Prim.Native.Nat.{ℕ, _+_, _*_}
+use Prim.Native.Nat.{ℕ}
 use mathlib.Core.Bool.{Bool}
 use mathlib.Core.List.{List, [], _∷_}
 use lib.ListN.{length}
 use lib.Dec.{ltb, leb}
 use Rattle.octets.specs.Tests.{first}
-use Rattle.octets.specs.Parts.{part}
-use Rattle.octets.specs.Numbers.{u16At}
 use Rattle.timer.specs.declared.Timer.{Timer}
 use Rattle.timer.specs.Clock.{timerFrom}
-use Rattle.table.specs.Entries.{recordWidth}
 use Rattle.rules.specs.declared.Written.{Written}
 use Rattle.rules.specs.Config.{blockSize}
 use Rattle.rules.specs.Records.{recordsFor}
 use Rattle.rules.specs.Output.{Wrote}
 use Rattle.typed.specs.declared.Sizes.{Sizes}
 use Rattle.typed.specs.declared.Sighting.{Sighting}
-use Rattle.typed.specs.Typed.{otherLength, countRefusals, sightingFrom, sizesFrom}
+use Rattle.typed.specs.Typed.{otherLength, countRefusals, sightingAt, sizesFrom}
 
 -- hour, minute, milliseconds
 abbrev pub timerFields : Timer → List ℕ
@@ -35,29 +32,29 @@ abbrev pub noRoom : ℕ → List ℕ → ℕ × Bool
 noRoom n out = (7, ltb (length out) n)
 
 -- refused and nothing written; or at the start of the output, and what stands after it stays: the bytes of a block
-abbrev pub blockRefusals : List ℕ → List ℕ → List (ℕ × Bool)
-blockRefusals sent out = noRoom blockSize out ∷ otherLength blockSize sent
+abbrev pub putBlockRefusals : List ℕ → List ℕ → List (ℕ × Bool)
+putBlockRefusals sent out = noRoom blockSize out ∷ otherLength blockSize sent
 
 abbrev pub BlockPut : List ℕ → List ℕ → Written → List ℕ → Type 0
-BlockPut sent out a out′ = Wrote (first (blockRefusals sent out)) sent out a out′
+BlockPut sent out a out′ = Wrote (first (putBlockRefusals sent out)) sent out a out′
 
 -- a timer
-abbrev pub timerRefusals : List ℕ → List ℕ → List (ℕ × Bool)
-timerRefusals sent out = noRoom 3 out ∷ otherLength 4 sent
+abbrev pub putTimerRefusals : List ℕ → List ℕ → List (ℕ × Bool)
+putTimerRefusals sent out = noRoom 3 out ∷ otherLength 4 sent
 
 abbrev pub TimerPut : List ℕ → List ℕ → Written → List ℕ → Type 0
-TimerPut sent out a out′ = Wrote (first (timerRefusals sent out)) (timerFields (timerFrom sent)) out a out′
+TimerPut sent out a out′ = Wrote (first (putTimerRefusals sent out)) (timerFields (timerFrom sent)) out a out′
 
 -- the sizes
-abbrev pub sizesRefusals : List ℕ → List ℕ → List (ℕ × Bool)
-sizesRefusals sent out = noRoom 3 out ∷ otherLength 6 sent
+abbrev pub putSizesRefusals : List ℕ → List ℕ → List (ℕ × Bool)
+putSizesRefusals sent out = noRoom 3 out ∷ otherLength 6 sent
 
 abbrev pub SizesPut : List ℕ → List ℕ → Written → List ℕ → Type 0
-SizesPut sent out a out′ = Wrote (first (sizesRefusals sent out)) (sizesFields (sizesFrom sent)) out a out′
+SizesPut sent out a out′ = Wrote (first (putSizesRefusals sent out)) (sizesFields (sizesFrom sent)) out a out′
 
 -- record i; 6: it is beyond the last
-abbrev pub recordTests : List ℕ → ℕ → List ℕ → List (ℕ × Bool)
-recordTests sent i out = (6, leb (recordsFor (length sent)) i) ∷ noRoom 5 out ∷ countRefusals sent
+abbrev pub putRecordRefusals : List ℕ → ℕ → List ℕ → List (ℕ × Bool)
+putRecordRefusals sent i out = (6, leb (recordsFor (length sent)) i) ∷ noRoom 5 out ∷ countRefusals sent
 
 abbrev pub RecordPut : List ℕ → ℕ → List ℕ → Written → List ℕ → Type 0
-RecordPut sent i out a out′ = Wrote (first (recordTests sent i out)) (recordFields (sightingFrom (part (2 + i * recordWidth) recordWidth sent))) out a out′
+RecordPut sent i out a out′ = Wrote (first (putRecordRefusals sent i out)) (recordFields (sightingAt sent i)) out a out′

@@ -28,10 +28,10 @@ use Rattle.typed.specs.declared.TimerTold.{TimerTold}
 use Rattle.typed.specs.declared.SizesTold.{SizesTold}
 use Rattle.typed.specs.declared.CountTold.{CountTold}
 use Rattle.typed.specs.declared.RecordTold.{RecordTold}
-use Rattle.typed.specs.Typed.{Typed, unless, otherLength, saidBy, BlockSaid, blockTold, timerSaid, timerTold, sizesSaid, sizesTold, countRefusals, countSaid, countTold, recordRefusals, recordSaid, recordTold}
-use Rattle.typed.specs.Typed as typed
+use Rattle.typed.specs.Typed.{otherLength, saidBy, BlockSaid, blockTold, timerSaid, timerTold, sizesSaid, sizesTold, countRefusals, countSaid, countTold, recordRefusals, recordSaid, recordTold}
+use Rattle.typed.proofs.Telling.{unless-refused}
 use Rattle.lines.specs.Lines.{lineRefusals, Lined, linesRefusals, linesOf, AllLined}
-use Rattle.fields.specs.Fields.{blockRefusals, BlockPut, timerRefusals, TimerPut, sizesRefusals, SizesPut, recordTests, RecordPut}
+use Rattle.fields.specs.Fields.{putBlockRefusals, BlockPut, putTimerRefusals, TimerPut, putSizesRefusals, SizesPut, putRecordRefusals, RecordPut}
 
 -- ---- octets and numbers in a lent output
 
@@ -48,16 +48,16 @@ module _ (out : List ℕ) (a : Written) (out′ : List ℕ) (r : Refusal) (e : a
   pub lines-harmless : (block sent : List ℕ) → AllLined block sent out a out′ → Harmless (linesRefusals block sent (length out))
   lines-harmless block sent w = wrote-refused _ _ out a out′ r w e
 
-  pub block-harmless : (sent : List ℕ) → BlockPut sent out a out′ → Harmless (blockRefusals sent out)
+  pub block-harmless : (sent : List ℕ) → BlockPut sent out a out′ → Harmless (putBlockRefusals sent out)
   block-harmless sent w = wrote-refused _ _ out a out′ r w e
 
-  pub timer-harmless : (sent : List ℕ) → TimerPut sent out a out′ → Harmless (timerRefusals sent out)
+  pub timer-harmless : (sent : List ℕ) → TimerPut sent out a out′ → Harmless (putTimerRefusals sent out)
   timer-harmless sent w = wrote-refused _ _ out a out′ r w e
 
-  pub sizes-harmless : (sent : List ℕ) → SizesPut sent out a out′ → Harmless (sizesRefusals sent out)
+  pub sizes-harmless : (sent : List ℕ) → SizesPut sent out a out′ → Harmless (putSizesRefusals sent out)
   sizes-harmless sent w = wrote-refused _ _ out a out′ r w e
 
-  pub record-harmless : (sent : List ℕ) (i : ℕ) → RecordPut sent i out a out′ → Harmless (recordTests sent i out)
+  pub record-harmless : (sent : List ℕ) (i : ℕ) → RecordPut sent i out a out′ → Harmless (putRecordRefusals sent i out)
   record-harmless sent i w = wrote-refused _ _ out a out′ r w e
 
 -- ---- what is read
@@ -72,27 +72,23 @@ reader-harmless q s a r w e = finding-first _ _ (numberOf r) (sym (ap findingOf 
 
 -- ---- what is told typed
 
-typed-first : {A : Type 0} (o : Option ℕ) (x : A) (n : ℕ) → typed.refused n ≡ unless o x → o ≡ some n
-typed-first none x n e = let z : _≡_ {A = ℕ} 0 1 = cc in absurd (omega arith)
-typed-first (some m) x n e = cc
-
 module _ (sent : List ℕ) (r : Refusal) where
   pub block-told-harmless : (b : Block) → BlockSaid sent b → b .whether ≡ Whether.Refused r → first (otherLength blockSize sent) ≡ some (numberOf r)
   unfolding blockTold
-  block-told-harmless b w e = typed-first _ sent (numberOf r) (sym (ap (λ (x : Whether). saidBy x (b .bytes)) e) ∙ w .said)
+  block-told-harmless b w e = unless-refused _ sent (numberOf r) (sym (ap (λ (x : Whether). saidBy x (b .bytes)) e) ∙ w .said)
 
   pub timer-told-harmless : (a : TimerTold) → timerSaid a ≡ timerTold sent → a ≡ TimerTold.Refused r → first (otherLength 4 sent) ≡ some (numberOf r)
   unfolding timerTold
-  timer-told-harmless a w e = typed-first _ _ (numberOf r) (sym (ap timerSaid e) ∙ w)
+  timer-told-harmless a w e = unless-refused _ _ (numberOf r) (sym (ap timerSaid e) ∙ w)
 
   pub sizes-told-harmless : (a : SizesTold) → sizesSaid a ≡ sizesTold sent → a ≡ SizesTold.Refused r → first (otherLength 6 sent) ≡ some (numberOf r)
   unfolding sizesTold
-  sizes-told-harmless a w e = typed-first _ _ (numberOf r) (sym (ap sizesSaid e) ∙ w)
+  sizes-told-harmless a w e = unless-refused _ _ (numberOf r) (sym (ap sizesSaid e) ∙ w)
 
   pub count-told-harmless : (a : CountTold) → countSaid a ≡ countTold sent → a ≡ CountTold.Refused r → first (countRefusals sent) ≡ some (numberOf r)
   unfolding countTold
-  count-told-harmless a w e = typed-first _ _ (numberOf r) (sym (ap countSaid e) ∙ w)
+  count-told-harmless a w e = unless-refused _ _ (numberOf r) (sym (ap countSaid e) ∙ w)
 
   pub record-told-harmless : (i : ℕ) (a : RecordTold) → recordSaid a ≡ recordTold sent i → a ≡ RecordTold.Refused r → first (recordRefusals sent i) ≡ some (numberOf r)
   unfolding recordTold
-  record-told-harmless i a w e = typed-first _ _ (numberOf r) (sym (ap recordSaid e) ∙ w)
+  record-told-harmless i a w e = unless-refused _ _ (numberOf r) (sym (ap recordSaid e) ∙ w)

@@ -10,7 +10,7 @@ use Rattle.rules.specs.Config.{blockSize}
 use Rattle.host_c.specs.Coded.{notLong}
 use Rattle.typed.specs.Typed.{otherLength, countRefusals, recordRefusals}
 use Rattle.lines.specs.Lines.{lineRefusals, linesRefusals}
-use Rattle.fields.specs.Fields.{blockRefusals, timerRefusals, sizesRefusals, recordTests}
+use Rattle.fields.specs.Fields.{putBlockRefusals, putTimerRefusals, putSizesRefusals, putRecordRefusals}
 
 pub line-numbers : (block text : List ℕ) (room : ℕ) → numbersOf (lineRefusals block text room) ≡ 6 ∷ 7 ∷ []
 unfolding lineRefusals
@@ -35,19 +35,19 @@ record-numbers sent i = refl
 
 -- the same as numbers in an output
 module _ (sent out : List ℕ) where
-  pub block-put-numbers : numbersOf (blockRefusals sent out) ≡ 7 ∷ 8 ∷ []
+  pub block-put-numbers : numbersOf (putBlockRefusals sent out) ≡ 7 ∷ 8 ∷ []
   unfolding otherLength
   block-put-numbers = refl
 
-  pub timer-put-numbers : numbersOf (timerRefusals sent out) ≡ 7 ∷ 8 ∷ []
+  pub timer-put-numbers : numbersOf (putTimerRefusals sent out) ≡ 7 ∷ 8 ∷ []
   unfolding otherLength
   timer-put-numbers = refl
 
-  pub sizes-put-numbers : numbersOf (sizesRefusals sent out) ≡ 7 ∷ 8 ∷ []
+  pub sizes-put-numbers : numbersOf (putSizesRefusals sent out) ≡ 7 ∷ 8 ∷ []
   unfolding otherLength
   sizes-put-numbers = refl
 
-  pub record-put-numbers : (i : ℕ) → numbersOf (recordTests sent i out) ≡ 6 ∷ 7 ∷ 8 ∷ []
+  pub record-put-numbers : (i : ℕ) → numbersOf (putRecordRefusals sent i out) ≡ 6 ∷ 7 ∷ 8 ∷ []
   unfolding countRefusals
   record-put-numbers i = refl
 
@@ -77,13 +77,13 @@ pub count-rises : (sent : List ℕ) → rises (numbersOf (countRefusals sent)) �
 count-rises sent = ap rises (count-numbers sent)
 
 module _ (sent out : List ℕ) where
-  pub block-put-rises : rises (numbersOf (blockRefusals sent out)) ≡ true
+  pub block-put-rises : rises (numbersOf (putBlockRefusals sent out)) ≡ true
   block-put-rises = ap rises (block-put-numbers sent out)
 
-  pub timer-put-rises : rises (numbersOf (timerRefusals sent out)) ≡ true
+  pub timer-put-rises : rises (numbersOf (putTimerRefusals sent out)) ≡ true
   timer-put-rises = ap rises (timer-put-numbers sent out)
 
-  pub sizes-put-rises : rises (numbersOf (sizesRefusals sent out)) ≡ true
+  pub sizes-put-rises : rises (numbersOf (putSizesRefusals sent out)) ≡ true
   sizes-put-rises = ap rises (sizes-put-numbers sent out)
 
 pub line-as-rises : (block sighted text : List ℕ) (room : ℕ)
@@ -96,5 +96,5 @@ lines-as-rises block sent room = ap rises (lines-as-numbers block sent room)
 pub record-rises : (sent : List ℕ) (i : ℕ) → rises (numbersOf (recordRefusals sent i)) ≡ true
 record-rises sent i = rw (record-numbers sent i)
 
-pub record-put-rises : (sent out : List ℕ) (i : ℕ) → rises (numbersOf (recordTests sent i out)) ≡ true
+pub record-put-rises : (sent out : List ℕ) (i : ℕ) → rises (numbersOf (putRecordRefusals sent i out)) ≡ true
 record-put-rises sent out i = ap rises (record-put-numbers sent out i)

@@ -1,12 +1,11 @@
 -- What each call of the host side owes its reader: the number of an answer, and what every lent octet then holds. Assumes nothing.
-use Prim.Native.Nat.{ℕ, _+_, _*_}
+use Prim.Native.Nat.{ℕ}
 use mathlib.Core.Path.{_≡_}
 use mathlib.Core.Bool.{Bool, not}
 use mathlib.Core.List.{List, _∷_}
 use lib.ListN.{length}
 use lib.Dec.{eqb}
 use Rattle.octets.specs.Tests.{first}
-use Rattle.octets.specs.Parts.{part}
 use Rattle.timer.specs.Clock.{timerFrom}
 use Rattle.table.specs.Entries.{recordWidth}
 use Rattle.rules.specs.Config.{blockSize}
@@ -16,9 +15,9 @@ use Rattle.rules.specs.Line.{line}
 use Rattle.requests.specs.declared.Request.{Request}
 use Rattle.requests.specs.Request.{requestFrame}
 use Rattle.maker.specs.Maker.{makerRefusals}
-use Rattle.typed.specs.Typed.{sightingFrom, sizesFrom}
+use Rattle.typed.specs.Typed.{sightingAt, sizesFrom}
 use Rattle.lines.specs.Lines.{lineRefusals, linesOf, linesRefusals}
-use Rattle.fields.specs.Fields.{timerFields, sizesFields, recordFields, blockRefusals, timerRefusals, sizesRefusals, recordTests}
+use Rattle.fields.specs.Fields.{timerFields, sizesFields, recordFields, putBlockRefusals, putTimerRefusals, putSizesRefusals, putRecordRefusals}
 use Rattle.codes.specs.Codes.{writtenCode}
 
 -- octets or numbers in a lent output: the first test that is given refuses, and nothing is written; else t stands at the start
@@ -46,13 +45,13 @@ LineAs block sighted out n out′ =
 
 -- what the data of a reply say: a block's bytes; a timer; the sizes; record i
 abbrev pub BlockAs : List ℕ → List ℕ → ℕ → List ℕ → Type 0
-BlockAs sent out n out′ = WroteAs (blockRefusals sent out) sent out n out′
+BlockAs sent out n out′ = WroteAs (putBlockRefusals sent out) sent out n out′
 
 abbrev pub TimerAs : List ℕ → List ℕ → ℕ → List ℕ → Type 0
-TimerAs sent out n out′ = WroteAs (timerRefusals sent out) (timerFields (timerFrom sent)) out n out′
+TimerAs sent out n out′ = WroteAs (putTimerRefusals sent out) (timerFields (timerFrom sent)) out n out′
 
 abbrev pub SizesAs : List ℕ → List ℕ → ℕ → List ℕ → Type 0
-SizesAs sent out n out′ = WroteAs (sizesRefusals sent out) (sizesFields (sizesFrom sent)) out n out′
+SizesAs sent out n out′ = WroteAs (putSizesRefusals sent out) (sizesFields (sizesFrom sent)) out n out′
 
 abbrev pub RecordAs : List ℕ → ℕ → List ℕ → ℕ → List ℕ → Type 0
-RecordAs sent i out n out′ = WroteAs (recordTests sent i out) (recordFields (sightingFrom (part (2 + i * recordWidth) recordWidth sent))) out n out′
+RecordAs sent i out n out′ = WroteAs (putRecordRefusals sent i out) (recordFields (sightingAt sent i)) out n out′

@@ -3,13 +3,14 @@ use Prim.Native.Nat.{ℕ, zero, suc, _+_, _*_, _≤_, _<_}
 use mathlib.Core.Path.{_≡_, refl, sym, ap, _∙_}
 use mathlib.Core.Bool.{Bool, true, false, cond, not, _&&_, and-false}
 use mathlib.Core.List.{List, []}
-use mathlib.Core.Option.{none, some}
+use mathlib.Core.Option.{Option, none, some, Option·none-ne-some}
 use native.Mathlib.Omega.{arith}
 use lib.Dec.{eqb, ltb, leb, lit≤}
 use lib.ListN.{length, getD, replicate}
 use lib.Seq.{take-all}
-use borrow.Author.Tests.{eq-eqb, ne-eqb, eqb-true, lt-ltb, le-ltb, le-leb, lt-leb}
+use borrow.Author.Tests.{eq-eqb, ne-eqb, eqb-true, lt-ltb, le-ltb, le-leb, lt-leb, not-false}
 use Rattle.octets.specs.Tests.{first}
+use Rattle.octets.proofs.Tests.{none-head}
 use Rattle.octets.specs.Parts.{part, put}
 use Rattle.octets.specs.Numbers.{number, u16At}
 use Rattle.octets.proofs.Puts.{put-whole, part-part, part-at}
@@ -125,18 +126,28 @@ module _ (sent : List ℕ) (i : ℕ) where
 
 -- ---- read back from what was told
 
+pub unless-says : {A : Type 0} (o : Option ℕ) (a b : A) → says b ≡ unless o a → (o ≡ none) × (b ≡ a)
+unless-says none a b e = (refl, cc)
+unless-says (some n) a b e = let z : _≡_ {A = ℕ} 0 1 = cc in absurd (omega arith)
+
+pub unless-refused : {A : Type 0} (o : Option ℕ) (a : A) (n : ℕ) → refused n ≡ unless o a → o ≡ some n
+unless-refused none a n e = let z : _≡_ {A = ℕ} 0 1 = cc in absurd (omega arith)
+unless-refused (some m) a n e = cc
+
+pub length-is : (size : ℕ) (sent b : List ℕ) → says b ≡ unless (first (otherLength size sent)) sent → length sent ≡ size
+unfolding otherLength
+length-is size sent b e = eqb-true _ _ (not-false _ (none-head 8 (not (eqb (length sent) size)) [] (unless-says _ sent b e .0)))
+
 pub count-is : (sent : List ℕ) (m : ℕ) → says m ≡ countTold sent → (readData sent ≡ true) × (m ≡ recordsFor (length sent))
-unfolding countTold countRefusals first
-count-is sent m e = go (readData sent) e
-  where
-    go : (b : Bool) → says m ≡ unless (cond (not b) (some 8) none) (recordsFor (length sent)) → (b ≡ true) × (m ≡ recordsFor (length sent))
-    go true q = (refl, cc)
-    go false q = let z : _≡_ {A = ℕ} 0 1 = cc in absurd (omega arith)
+unfolding countTold countRefusals
+count-is sent m e =
+    let u = unless-says (first (countRefusals sent)) (recordsFor (length sent)) m e in
+    (not-false _ (none-head 8 (not (readData sent)) [] (u .0)), u .1)
 
 pub count-not : (sent : List ℕ) (n : ℕ) → refused n ≡ countTold sent → readData sent ≡ false
 unfolding countTold countRefusals first
-count-not sent n e = go (readData sent) e
+count-not sent n e = go (readData sent) (unless-refused (first (countRefusals sent)) (recordsFor (length sent)) n e)
   where
-    go : (b : Bool) → refused n ≡ unless (cond (not b) (some 8) none) (recordsFor (length sent)) → b ≡ false
-    go true q = let z : _≡_ {A = ℕ} 0 1 = cc in absurd (omega arith)
+    go : (b : Bool) → cond (not b) (some 8) none ≡ some n → b ≡ false
+    go true q = absurd (Option·none-ne-some n q)
     go false q = refl

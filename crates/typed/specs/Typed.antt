@@ -103,13 +103,16 @@ countSaid (count.Refused r) = refused (numberOf r)
 unfoldable pub sightingFrom : List ℕ → Sighting
 sightingFrom r = record { uid = number (part 0 8 r); timer = timerFrom (part 8 4 r); mask = getD r 12 0 }
 
+-- record i, the oldest is record 0
+abbrev pub sightingAt : List ℕ → ℕ → Sighting
+sightingAt sent i = sightingFrom (part (2 + i * recordWidth) recordWidth sent)
+
 -- 6: a record beyond the last; 8: data that no reply to 0x22 carries
 unfoldable pub recordRefusals : List ℕ → ℕ → List (ℕ × Bool)
 recordRefusals sent i = (6, leb (recordsFor (length sent)) i) ∷ countRefusals sent
 
--- record i, the oldest is record 0
 unfoldable pub recordTold : List ℕ → ℕ → Typed Sighting
-recordTold sent i = unless (first (recordRefusals sent i)) (sightingFrom (part (2 + i * recordWidth) recordWidth sent))
+recordTold sent i = unless (first (recordRefusals sent i)) (sightingAt sent i)
 
 abbrev pub recordSaid : RecordTold → Typed Sighting
 recordSaid (row.Record s) = says s

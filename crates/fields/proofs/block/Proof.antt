@@ -7,8 +7,8 @@ use lib.ListN.{length}
 use Rattle.rules.specs.Config.{blockSize}
 use Rattle.typed.specs.declared.Whether.{Whether}
 use Rattle.typed.specs.Typed.{otherLength, blockTold, saidBy}
-use Rattle.typed.proofs.Telling.{bytes-length}
-use Rattle.fields.proofs.Told.{no-room, not-told, told, right}
+use Rattle.typed.proofs.Telling.{bytes-length, length-is}
+use Rattle.fields.proofs.Told.{no-room, not-told, told}
 use borrow.Author.Needs.{needs}
 use Rattle.fields.proofs.block.Statement.{statement}
 use Rattle.fields.proofs.block.Tie as tie
@@ -19,7 +19,7 @@ itself s = s
 returns : tie.Need-returns
 returns c =
     let a = c .before .before .before .args in
-    no-room blockSize (otherLength blockSize (a .sent .now)) itself (a .sent .now) (a .out .now) (c .if1 .taken)
+    no-room blockSize (otherLength blockSize (a .sent .now)) itself (a .sent .now) (a .out .now) (omega (arith, c .if1 .taken))
 
 returns-2 : tie.Need-returns-2
 unfolding blockTold
@@ -28,7 +28,7 @@ returns-2 c =
     let t = w .before .before in
     let e = t .before in
     let a = e .before .before .before .args in
-    not-told blockSize (otherLength blockSize (a .sent .now)) itself (a .sent .now) (a .out .now) (e .if1 .left) (w .whether .given .0 .0)
+    not-told blockSize (otherLength blockSize (a .sent .now)) itself (a .sent .now) (a .out .now) (omega (arith, e .if1 .left)) (w .whether .given .0 .0)
     (sym (ap (λ (x : Whether). saidBy x (t .block-in .result .bytes)) (w .whether .given .1)) ∙ t .block-in .ensures .said)
 
 returns-3 : tie.Need-returns-3
@@ -40,8 +40,8 @@ returns-3 c =
     let e = t .before in
     let a = e .before .before .before .args in
     let said = sym (ap (λ (x : Whether). saidBy x (t .block-in .result .bytes)) (w .enum-told .given .1)) ∙ t .block-in .ensures .said in
-    told blockSize (otherLength blockSize (a .sent .now)) itself (a .sent .now) (a .out .now) (e .if1 .left) (t .block-in .result .bytes) _ said
-    (sym (right blockSize (a .sent .now) (t .block-in .result .bytes) said)) (p .copy-to .ensures)
+    told blockSize (otherLength blockSize (a .sent .now)) itself (a .sent .now) (a .out .now) (omega (arith, e .if1 .left)) (t .block-in .result .bytes) _ said
+    (sym (length-is blockSize (a .sent .now) (t .block-in .result .bytes) said)) (p .copy-to .ensures)
 
 copy-to-requires : tie.Need-copy-to-requires
 copy-to-requires c κs =

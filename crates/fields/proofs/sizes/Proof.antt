@@ -1,5 +1,6 @@
 -- `fields::sizes` meets its contract: the room, then what was told. Assumes nothing.
 use mathlib.Core.Path.{refl, sym, ap, _∙_}
+use native.Mathlib.Omega.{arith}
 use Rattle.typed.specs.Typed.{otherLength, sizesFrom, sizesTold, sizesSaid}
 use Rattle.fields.specs.Fields.{sizesFields}
 use Rattle.fields.proofs.Told.{no-room, not-told, told}
@@ -10,7 +11,7 @@ use Rattle.fields.proofs.sizes.Tie as tie
 returns : tie.Need-returns
 returns c =
     let a = c .before .before .before .args in
-    no-room 3 (otherLength 6 (a .sent .now)) sizesFields (sizesFrom (a .sent .now)) (a .out .now) (c .if1 .taken)
+    no-room 3 (otherLength 6 (a .sent .now)) sizesFields (sizesFrom (a .sent .now)) (a .out .now) (omega (arith, c .if1 .taken))
 
 returns-2 : tie.Need-returns-2
 unfolding sizesTold
@@ -18,7 +19,7 @@ returns-2 c =
     let t = c .before .before .before in
     let e = t .before in
     let a = e .before .before .before .args in
-    not-told 3 (otherLength 6 (a .sent .now)) sizesFields (sizesFrom (a .sent .now)) (a .out .now) (e .if1 .left) (c .before .r .given .0 .0)
+    not-told 3 (otherLength 6 (a .sent .now)) sizesFields (sizesFrom (a .sent .now)) (a .out .now) (omega (arith, e .if1 .left)) (c .before .r .given .0 .0)
     (sym (ap sizesSaid (c .before .r .given .1)) ∙ t .sizes-in .ensures)
 
 returns-3 : tie.Need-returns-3
@@ -29,7 +30,7 @@ returns-3 c =
     let t = v .before .before in
     let e = t .before in
     let a = e .before .before .before .args in
-    told 3 (otherLength 6 (a .sent .now)) sizesFields (sizesFrom (a .sent .now)) (a .out .now) (e .if1 .left) (v .s .given .0 .0) _
+    told 3 (otherLength 6 (a .sent .now)) sizesFields (sizesFrom (a .sent .now)) (a .out .now) (omega (arith, e .if1 .left)) (v .s .given .0 .0) _
     (sym (ap sizesSaid (v .s .given .1)) ∙ t .sizes-in .ensures) refl (p .put-sizes .ensures)
 
 pub sizes-spec : {M : Type 1} → statement M

@@ -1,4 +1,5 @@
 -- `typed::is_read_data` meets its contract: each way out is a case of `readData`. Assumes nothing.
+use native.Mathlib.Omega.{arith}
 use Rattle.typed.proofs.Telling.{data-none, data-short, data-none-counted, data-many, data-counted}
 use borrow.Author.Needs.{needs}
 use Rattle.typed.proofs.is_read_data.Statement.{statement}
@@ -14,10 +15,10 @@ returns-3 : tie.Need-returns-3
 returns-3 c = data-none-counted _ (c .before .before .before .if1 .left) _ (c .before .get16 .ensures) (c .if3 .taken)
 
 returns-4 : tie.Need-returns-4
-returns-4 c = data-many _ (c .before .before .before .before .if1 .left) _ (c .before .before .get16 .ensures) (c .if4 .taken)
+returns-4 c = data-many _ (c .before .before .before .before .if1 .left) _ (c .before .before .get16 .ensures) (omega (arith, c .if4 .taken))
 
 returns-5 : tie.Need-returns-5
-returns-5 c = data-counted _ (c .before .before .before .before .if1 .left) _ (c .before .before .get16 .ensures) (c .before .if3 .left) (c .if4 .left)
+returns-5 c = data-counted _ (c .before .before .before .before .if1 .left) _ (c .before .before .get16 .ensures) (c .before .if3 .left) (omega (arith, c .if4 .left))
 
 pub is-read-data-spec : {M : Type 1} → statement M
 is-read-data-spec =

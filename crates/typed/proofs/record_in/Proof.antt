@@ -14,14 +14,16 @@ use Rattle.typed.proofs.record_in.Tie as tie
 
 -- it is not beyond the last
 here : (c : tie.Else1) → c .before .before .before .args .i < recordsFor (length (c .before .before .before .args .sent .now))
-here c = rw (c .before .records-for .ensures) at (c .if1 .left)
+here c = omega (arith, c .before .records-for .ensures, c .if1 .left)
 
 -- so it lies in the data
 inside : (c : tie.Else2) → let z = c .before .before .before .before .before in 2 + z .args .i * recordWidth + recordWidth ≤ length (z .args .sent .now)
-inside c = record-inside _ _ _ (c .before .before .before .records-for .ensures) (c .before .before .if1 .left)
+inside c =
+    let z = c .before .before .before .before .before in
+    record-inside (length (z .args .sent .now)) (recordsFor (length (z .args .sent .now))) (z .args .i) refl (here (c .before .before))
 
 returns : tie.Need-returns
-returns c = beyond _ _ (rw (c .before .records-for .ensures) at (c .if1 .taken))
+returns c = beyond _ _ (omega (arith, c .before .records-for .ensures, c .if1 .taken))
 
 returns-2 : tie.Need-returns-2
 returns-2 c = no-records _ _ (here (c .before .before)) (failed (c .before .is-read-data .ensures) (c .if2 .taken))
