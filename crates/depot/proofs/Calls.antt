@@ -1,16 +1,13 @@
 -- From what a call did to what it owes: one law for each way out. Assumes nothing.
-use Prim.Native.Nat.{ℕ, _+_, _≤_, _<_}
-use mathlib.Core.Path.{_≡_, refl, ap, _∙_}
+use Prim.Native.Nat.{ℕ, _≤_, _<_}
+use mathlib.Core.Path.{_≡_, refl, ap}
 use mathlib.Core.Bool.{true, false}
-use mathlib.Core.List.{List, _∷_}
+use mathlib.Core.List.{List}
 use mathlib.Core.Option.{none, some}
-use native.Mathlib.Omega.{arith}
 use lib.ListN.{length}
 use Rattle.octets.specs.Tests.{first}
-use Rattle.octets.specs.Parts.{put}
 use Rattle.frame.specs.declared.Way.the-variants.{Request}
 use Rattle.frame.specs.declared.Frame.{Frame}
-use Rattle.frame.proofs.Verdict.{sound-parts}
 use Rattle.frame.proofs.Numbers.{refuses}
 use Rattle.frame.specs.declared.Refusal.{Refusal}
 use Rattle.frame.specs.declared.Refusal.the-variants.{Unsound}
@@ -18,7 +15,7 @@ use Rattle.frame.specs.Shape.{replyRoom}
 use Rattle.frame.specs.Refusal.{numberOf}
 use Rattle.frame.specs.Judged.{wellFormed, judged}
 use Rattle.table.specs.Entries.{desks}
-use Rattle.rules.specs.Box.{Event, frame, sighting, tick, request, served, sighted, placed, unlessRefused, frameRefusals, sightingRefusals, step}
+use Rattle.rules.specs.Box.{Event, frame, sighting, tick, sighted, placed, unlessRefused, frameRefusals, sightingRefusals, step}
 use Rattle.store.specs.Sound.{sound}
 use Rattle.replying.specs.Replied.{Replied}
 use Rattle.sightings.specs.Sighted.{Sighted as DeskSighted, Ticked}
@@ -45,13 +42,13 @@ sighting-refused n uid mask r s out q e = record { ended = rw (q, e) (refuses Re
 
 -- a reply stands at the start of the output
 module _ (f s s′ out out′ : List ℕ) (p : Frame) (n : ℕ) (q : sound s ≡ true) (is : judged Request f ≡ wellFormed p) (room : replyRoom ≤ length out)
-    (low : p .address < desks) (y : Replied f p s out n s′ out′) where
+    (low : p .address < desks) (y : Replied f s out n s′ out′) where
   pub frame-replied : Called (frame f (length out)) s out (Reply n) s′ out′
-  unfolding stepOn step unlessRefused placed served request
+  unfolding stepOn step unlessRefused placed
   frame-replied =
       record {
         ended =
-            rw (q, accepted f (length out) room p is low, ← sound-parts Request f p is)
+            rw (q, accepted f (length out) room p is low, y .sent-is)
             (ap Reply (y .count-is), y .output-is, record { still = y .says .still; says = y .says .view-is; alone = y .says .alone });
       }
 

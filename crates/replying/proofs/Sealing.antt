@@ -15,6 +15,7 @@ use Rattle.frame.specs.Judged.{wellFormed, judged, dataOf}
 use Rattle.frame.specs.Sealed.{frameOf}
 use Rattle.frame.proofs.Bounds.{longest-fits}
 use Rattle.frame.proofs.Lengths.{length-frame}
+use Rattle.frame.proofs.Verdict.{sound-parts}
 use Rattle.seal.specs.declared.Sealed.the-variants.{Octets, Not}
 use Rattle.seal.specs.Buffer.{fitsIn, sealedAs, replyIn}
 use Rattle.seal.proofs.Room.{fits-in}
@@ -27,7 +28,8 @@ use Rattle.keeping.specs.Kept.{kept}
 use Rattle.keeping.proofs.Rows.{kept-legal}
 use Rattle.effects.specs.declared.Reply.{Reply as DeskReply}
 use Rattle.records.specs.Obeyed.{Obeyed}
-use Rattle.replying.specs.Replied.{ruledFor, replyFor, Replied}
+use Rattle.rules.specs.Box.{request, served}
+use Rattle.replying.specs.Replied.{Replied}
 
 module _ (k : Kind) (adr ctl status : ℕ) (sent out out′ : List ℕ) (room : replyRoom ≤ length out) (small : overhead Reply k + length sent ≤ shapeOf k .longest)
     (there : out′ ≡ put (dataAt Reply k) sent out) where
@@ -51,26 +53,36 @@ module _ (k : Kind) (adr ctl status : ℕ) (sent out out′ : List ℕ) (room : 
       ∙ put-over at sent 0 (frameOf k adr ctl (status ∷ sent)) out (omega arith) (omega (arith, length-frame k adr ctl (status ∷ sent))))
 
 -- what the desk's command left, sealed
-module _ (f s s′ out out′ body : List ℕ) (p : Frame) (r : DeskReply) (q : sound s ≡ true) (room : replyRoom ≤ length out)
+module _ (f s s′ out out′ body : List ℕ) (p : Frame) (r : DeskReply) (q : sound s ≡ true) (is : judged Request f ≡ wellFormed p) (room : replyRoom ≤ length out)
     (low : p .address < desks) (same : body ≡ dataOf p f)
     (y : Obeyed (p .address) (p .kind) (answered (p .kind) (kept (p .address) s) (p .control) body) r s s′ out out′) where
   abbrev res : Result
   res = answered (p .kind) (kept (p .address) s) (p .control) body
 
+  abbrev framed : List ℕ
+  framed = frameOf (p .kind) (p .address) (p .control) (res .status ∷ res .sent)
+
   small : overhead Reply (p .kind) + length (res .sent) ≤ shapeOf (p .kind) .longest
   unfolding answered
   small = obey-carried (known (p .control)) (p .kind) (kept (p .address) s) body (kept-legal s q (p .address) low) .small
 
-  whole : sealedAs Reply (p .kind) (r .len) out′ ≡ Octets (length (replyFor p res))
+  whole : sealedAs Reply (p .kind) (r .len) out′ ≡ Octets (length framed)
   whole = rw (y .told .len-is) (reply-size (p .kind) (p .address) (p .control) (res .status) (res .sent) out out′ room small (y .told .out-is))
 
   pub never-not : sealedAs Reply (p .kind) (r .len) out′ ≡ Not → ⊥
   never-not e = let z : _≡_ {A = ℕ} 0 1 = cc whole in omega arith
 
   pub replied : (n : ℕ) (out″ : List ℕ) → sealedAs Reply (p .kind) (r .len) out′ ≡ Octets n
-      → out″ ≡ replyIn (p .kind) (p .address) (p .control) (r .status) (r .len) out′ → Replied f p s out n s′ out″
+      → out″ ≡ replyIn (p .kind) (p .address) (p .control) (r .status) (r .len) out′ → Replied f s out n s′ out″
+  unfolding served request
   replied n out″ e o =
-      let size : n ≡ length (replyFor p res) = cc whole in
-      let made : out″ ≡ put 0 (replyFor p res) out =
+      let size : n ≡ length framed = cc whole in
+      let made : out″ ≡ put 0 framed out =
       o ∙ rw (y .told .len-is, y .told .status-is) (reply-octets (p .kind) (p .address) (p .control) (res .status) (res .sent) out out′ room small (y .told .out-is)) in
-      record { count-is = rw (← same) size; output-is = rw (← same) made; says = rw (← same) (y .says) }
+      record {
+        sent = framed;
+        sent-is = rw (← sound-parts Request f p is, ← same);
+        count-is = size;
+        output-is = made;
+        says = rw (← sound-parts Request f p is, ← same) (y .says);
+      }

@@ -1,24 +1,20 @@
--- What a well-formed frame leaves at its desk: the reply at the start of the output, and a store that says the rules' desk. Assumes nothing.
+-- What a well-formed frame leaves at its desk: the rules' reply at the start of the output, and a store that says the rules' desk.
+-- Assumes nothing.
 use Prim.Native.Nat.{ℕ}
 use mathlib.Core.Path.{_≡_}
-use mathlib.Core.List.{List, _∷_}
+use mathlib.Core.List.{List}
 use lib.ListN.{length}
 use Rattle.octets.specs.Parts.{put}
-use Rattle.frame.specs.declared.Frame.{Frame}
-use Rattle.frame.specs.Judged.{dataOf}
-use Rattle.frame.specs.Sealed.{frameOf}
-use Rattle.rules.specs.Command.{Result, answered}
+use Rattle.rules.specs.Box.{AtDesk, reply, request, served}
 use Rattle.keeping.specs.Kept.{kept, Says}
 
 -- what the rules have the desk do that the frame names
-abbrev pub ruledFor : List ℕ → Frame → List ℕ → Result
-ruledFor frame f s = answered (f .kind) (kept (f .address) s) (f .control) (dataOf f frame)
+abbrev pub servedBy : List ℕ → List ℕ → AtDesk
+servedBy f s = served f (kept (request f .address) s)
 
--- a reply is of the request's kind, with its COM-ADR and control byte, and has one status octet after the control byte
-abbrev pub replyFor : Frame → Result → List ℕ
-replyFor f r = frameOf (f .kind) (f .address) (f .control) (r .status ∷ r .sent)
-
-pub record Replied (frame : List ℕ) (f : Frame) (s out : List ℕ) (n : ℕ) (s′ out′ : List ℕ) : Type 0 where
-  pub count-is : n ≡ length (replyFor f (ruledFor frame f s))
-  pub output-is : out′ ≡ put 0 (replyFor f (ruledFor frame f s)) out
-  pub says : Says (f .address) (ruledFor frame f s .desk) s s′
+pub record Replied (f s out : List ℕ) (n : ℕ) (s′ out′ : List ℕ) : Type 0 where
+  pub sent : List ℕ
+  pub sent-is : servedBy f s .answer ≡ reply sent
+  pub count-is : n ≡ length sent
+  pub output-is : out′ ≡ put 0 sent out
+  pub says : Says (request f .address) (servedBy f s .desk) s s′

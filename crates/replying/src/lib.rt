@@ -15,7 +15,7 @@ ghost use Rattle.replying.specs.Replied.{Replied};
 // The desk that the frame names answers it; how many octets the reply has.
 pub fn reply(store: &mut [u8], frame: &[u8], f: Frame, out: &mut [u8]) -> usize
     requires { ⌜ (sound (now store) ≡ true) × (judged Way.Request (now frame) ≡ Verdict.wellFormed f) × (f .address < desks) × (replyRoom ≤ length (now out)) ⌝ }
-    ensures { λ r. ⌜ Replied (now (frame .entry)) f (now (store .entry)) (now (out .entry)) r (now (store .exit)) (now (out .exit)) ⌝ }
+    ensures { λ r. ⌜ Replied (now (frame .entry)) (now (store .entry)) (now (out .entry)) r (now (store .exit)) (now (out .exit)) ⌝ }
 {
     let address = f.address;
     let start = f.start;

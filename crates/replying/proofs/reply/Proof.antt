@@ -24,7 +24,7 @@ returns c =
     let v = x .before .before .before .before .before .before in
     let z = v .before .before .before .before .before .before .before .before in
     let a = z .args in
-    replied (a .frame .now) (a .store .now) (v .serve .last .0) (a .out .now) _ _ (a .f) (v .serve .result) (z .pre .0) (z .pre .3) (z .pre .2)
+    replied (a .frame .now) (a .store .now) (v .serve .last .0) (a .out .now) _ _ (a .f) (v .serve .result) (z .pre .0) (z .pre .1) (z .pre .3) (z .pre .2)
     (data-lent (a .f) (a .frame .now)) (v .serve .ensures) (c .before .n .given .0 .0) _ (sym (x .seal-reply .ensures .0) ∙ c .before .n .given .1)
     (x .seal-reply .ensures .1)
 
@@ -34,7 +34,7 @@ returns-2 c =
     let v = x .before .before .before .before .before .before in
     let z = v .before .before .before .before .before .before .before .before in
     let a = z .args in
-    absurd (never-not (a .frame .now) (a .store .now) (v .serve .last .0) (a .out .now) _ _ (a .f) (v .serve .result) (z .pre .0) (z .pre .3) (z .pre .2)
+    absurd (never-not (a .frame .now) (a .store .now) (v .serve .last .0) (a .out .now) _ _ (a .f) (v .serve .result) (z .pre .0) (z .pre .1) (z .pre .3) (z .pre .2)
     (data-lent (a .f) (a .frame .now)) (v .serve .ensures) (sym (x .seal-reply .ensures .0) ∙ c .enum-told .given .1))
 
 pub reply-spec : {M : Type 1} → statement M
