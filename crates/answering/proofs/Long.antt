@@ -14,15 +14,16 @@ use Rattle.frame.specs.declared.Kind.{Kind}
 use Rattle.frame.specs.declared.Kind.the-variants.{Standard, Advanced}
 use Rattle.frame.specs.declared.Way.the-variants.{Request}
 use Rattle.frame.specs.Shape.{overhead, replyRoom}
-use Rattle.frame.specs.Judged.{refused, kindOf, judged}
+use Rattle.frame.specs.Finding.{refused}
+use Rattle.frame.specs.Judged.{kindOf, judged}
 use Rattle.frame.proofs.Verdict.{long}
 use Rattle.rules.specs.Box.{frame, Step, frameRefusals, unlessRefused, step}
 use Rattle.rules.proofs.Refusals.{small-buffer, judge-refused}
 use Rattle.depot.specs.declared.Answer.{Answer}
 use Rattle.depot.specs.Called.{stepOn, Ended, Called}
 use Rattle.frame.proofs.Bounds.{longest-fits}
-use Rattle.text.specs.Digits.{octetsOf}
-use Rattle.text.proofs.Values.{octets-length}
+use Rattle.digits.specs.Digits.{octetsOf}
+use Rattle.digits.proofs.Values.{octets-length}
 
 short-overhead : (k : Kind) → overhead Request k ≤ replyRoom
 short-overhead Standard = omega arith

@@ -1,13 +1,13 @@
 // What a whole line is answered: a frame that stands in digits, or a line that is no hex.
+use digits::read::decode;
 use frame::Advanced;
-use text::digits::decode;
 use text::print::not_read;
 use text::print::show;
 ghost use mathlib.Core.Path.{_≡_};
 ghost use mathlib.Core.Bool.{true};
 ghost use Prim.Native.Nat.{_≤_};
 ghost use lib.ListN.{length};
-ghost use Rattle.text.specs.Digits.{octetsOf};
+ghost use Rattle.digits.specs.Digits.{octetsOf};
 ghost use Rattle.text.specs.Listing.{Line, isSighting, sightingOf, otherLine, longestLine};
 ghost use Rattle.answering.specs.Answered.{Answered};
 

@@ -16,6 +16,7 @@ use Rattle.octets.proofs.Each.{given-each}
 use Rattle.frame.specs.declared.Kind.{Kind}
 use Rattle.frame.specs.declared.Kind.the-variants.{Standard, Advanced}
 use Rattle.frame.specs.Shape.{shapeOf}
+use Rattle.frame.specs.Finding.{finding}
 use Rattle.frame.specs.Judged.{kindOf, faults, partsOf}
 use Rattle.frame.proofs.Bounds.{number-small}
 use Rattle.rules.specs.declared.Seen.{Seen}
@@ -30,7 +31,7 @@ use Rattle.requests.specs.declared.Request.{Request}
 use Rattle.reader.specs.declared.Told.{Told}
 use Rattle.requests.specs.Request.{requestFrame}
 use Rattle.maker.specs.Maker.{makerRefusals, Requested}
-use Rattle.reader.specs.Reader.{finding, toldOf, readerRefusals, readAs}
+use Rattle.reader.specs.Reader.{toldOf, readerRefusals, readAs}
 use Rattle.lines.specs.Lines.{lineRefusals, Lined, linesOf, linesRefusals, AllLined}
 use Rattle.codes.specs.Codes.{seenCode, codeOf, writtenCode, readCode}
 

@@ -14,12 +14,12 @@ use Rattle.octets.proofs.Every.{every-at}
 use Rattle.frame.specs.declared.Refusal.{Refusal}
 use Rattle.frame.specs.declared.Refusal.the-variants.{Unsound, SmallBuffer, WrongLength, WrongCheck, NoDesk, OutOfRange, NoRoom, NotTheReply}
 use Rattle.frame.specs.Refusal.{numberOf}
+use Rattle.frame.specs.Finding.{Finding}
 use Rattle.rules.specs.declared.Seen.the-variants.{Ignored, Lost, Recorded}
 use Rattle.depot.specs.declared.Answer.{Answer}
 use Rattle.depot.proofs.Short.{Short}
 use Rattle.rules.specs.declared.Written.{Written}
 use Rattle.reader.specs.declared.Told.{Told}
-use Rattle.reader.specs.Reader.{Finding}
 use Rattle.codes.specs.Codes.{Range, In, done, refused, sighted, ignored, told, written, rangeCount, rangeAt, codeOf, writtenCode, readCode}
 use Rattle.codes.proofs.Told.{Small}
 

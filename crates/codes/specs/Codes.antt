@@ -3,13 +3,14 @@ use Prim.Native.Nat.{ℕ, _+_, _*_, _^_, _≤_, _<_}
 use mathlib.Core.List.{List, [], _∷_}
 use lib.ListN.{length, getD}
 use Rattle.frame.specs.Refusal.{numberOf}
+use Rattle.frame.specs.Finding.{Finding, refused as notRead, found as read}
 use Rattle.rules.specs.declared.Seen.{Seen}
 use Rattle.rules.specs.declared.Seen.the-variants.{Ignored, Lost, Recorded}
 use Rattle.rules.specs.declared.Written.{Written}
 use Rattle.rules.specs.declared.Written.the-variants.{Octets, Refused as NotWritten}
 use Rattle.depot.specs.declared.Answer.{Answer}
 use Rattle.depot.specs.declared.Answer.the-variants.{Refused, Reply, Sighted, Done}
-use Rattle.reader.specs.Reader.{Finding, refused as notRead, found as read}
+use Rattle.reader.specs.declared.Told.{Told}
 
 -- ---- the ranges
 
@@ -105,6 +106,6 @@ writtenCode (NotWritten r) = numberOf r
 writtenCode (Octets n) = written .from + n
 
 -- the reader
-abbrev pub readCode : Finding → ℕ
+abbrev pub readCode : Finding Told → ℕ
 readCode (notRead n) = n
 readCode (read t) = told .from + t .status * 2 ^ 24 + t .start * 2 ^ 16 + t .len

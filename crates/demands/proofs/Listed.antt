@@ -3,18 +3,18 @@
 use Prim.Native.Nat.{ℕ}
 use mathlib.Core.Path.{_≡_, refl, sym, ap, _∙_}
 use mathlib.Core.Bool.{Bool, true, false, cond, not}
-use mathlib.Core.List.{List, [], _∷_}
+use mathlib.Core.List.{List}
 use mathlib.Core.Option.{Option, none, some}
 use native.Mathlib.Omega.{arith}
 use Rattle.octets.specs.Tests.{first}
 use Rattle.frame.specs.declared.Refusal.{Refusal}
 use Rattle.frame.specs.Refusal.{numberOf}
 use Rattle.frame.proofs.Numbers.{refuses-number}
-use Rattle.rules.specs.Box.{Box, deskAt, Event, frame, sighting, tick, Answer as RuleAnswer, refused, reply, seen, ok, AtDesk, Step, request, served, sighted, placed, unlessRefused, frameRefusals, sightingRefusals, step}
+use Rattle.rules.specs.Box.{Box, deskAt, Event, frame, sighting, tick, Answer as RuleAnswer, refused, reply, seen, ok, Step, request, served, sighted, placed, unlessRefused, frameRefusals, sightingRefusals, step}
 use Rattle.store.specs.View.{view}
 use Rattle.store.specs.Sound.{sound}
 use Rattle.depot.specs.declared.Answer.{Answer}
-use Rattle.depot.specs.declared.Answer.the-variants.{Refused, Reply, Sighted, Done}
+use Rattle.depot.specs.declared.Answer.the-variants.{Refused}
 use Rattle.depot.specs.Called.{stepOn, Ended, Called, testRefusals}
 use Rattle.demands.specs.Answers.{heard, refusalsOf, testsOf, ofItsKind}
 

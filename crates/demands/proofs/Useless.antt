@@ -23,7 +23,7 @@ use Rattle.rules.specs.Records.{goes, counted}
 use Rattle.rules.specs.Events.{concerns, answersOf}
 use Rattle.rules.proofs.Computed.{computed}
 use Rattle.depot.specs.declared.Answer.{Answer}
-use Rattle.depot.specs.declared.Answer.the-variants.{Refused, Sighted, Done}
+use Rattle.depot.specs.declared.Answer.the-variants.{Refused, Sighted}
 use Rattle.requests.proofs.Values.{two-back}
 use Rattle.demands.specs.History.{Call, frame, sighting, tick, Deed, eventsOf, History}
 use Rattle.demands.specs.Answers.{heard, heardBy}

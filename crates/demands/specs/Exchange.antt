@@ -9,6 +9,7 @@ use Rattle.rules.specs.Config.{blockSize}
 use Rattle.octets.specs.Parts.{part}
 use Rattle.octets.specs.Each.{All, Octet}
 use Rattle.frame.specs.Shape.{shapeOf}
+use Rattle.frame.specs.Finding.{found}
 use Rattle.frame.specs.Sealed.{frameOf}
 use Rattle.rules.specs.Command.{Result, answered}
 use Rattle.rules.specs.Box.{deskAt}
@@ -19,7 +20,7 @@ use Rattle.depot.specs.declared.Answer.the-variants.{Reply}
 use Rattle.requests.specs.declared.Request.{Request}
 use Rattle.reader.specs.declared.Told.{Told}
 use Rattle.requests.specs.Request.{controlOf, fieldsHold, dataFor}
-use Rattle.reader.specs.Reader.{found, readAs}
+use Rattle.reader.specs.Reader.{readAs}
 
 -- a request that a frame can carry
 pub record Carriable (q : Request) : Type 0 where

@@ -13,7 +13,8 @@ use Rattle.frame.specs.declared.Refusal.{Refusal}
 use Rattle.frame.specs.declared.Refusal.the-variants.{Unsound}
 use Rattle.frame.specs.Shape.{replyRoom}
 use Rattle.frame.specs.Refusal.{numberOf}
-use Rattle.frame.specs.Judged.{wellFormed, judged}
+use Rattle.frame.specs.Finding.{found}
+use Rattle.frame.specs.Judged.{judged}
 use Rattle.table.specs.Entries.{desks}
 use Rattle.rules.specs.Box.{Event, frame, sighting, tick, sighted, placed, unlessRefused, frameRefusals, sightingRefusals, step}
 use Rattle.store.specs.Sound.{sound}
@@ -41,7 +42,7 @@ sighting-refused n uid mask r s out q e = record { ended = rw (q, e) (refuses Re
 -- ---- answered
 
 -- a reply stands at the start of the output
-module _ (f s s′ out out′ : List ℕ) (p : Frame) (n : ℕ) (q : sound s ≡ true) (is : judged Request f ≡ wellFormed p) (room : replyRoom ≤ length out)
+module _ (f s s′ out out′ : List ℕ) (p : Frame) (n : ℕ) (q : sound s ≡ true) (is : judged Request f ≡ found p) (room : replyRoom ≤ length out)
     (low : p .address < desks) (y : Replied f s out n s′ out′) where
   pub frame-replied : Called (frame f (length out)) s out (Reply n) s′ out′
   unfolding stepOn step unlessRefused placed

@@ -14,7 +14,8 @@ ghost use Prim.Native.Nat.{_≤_};
 ghost use lib.ListN.{length};
 ghost use Rattle.frame.specs.declared.Way.{Way};
 ghost use Rattle.frame.specs.Shape.{replyRoom};
-ghost use Rattle.frame.specs.Judged.{Verdict, judged};
+ghost use Rattle.frame.specs.Finding.{Finding};
+ghost use Rattle.frame.specs.Judged.{judged};
 ghost use Rattle.rules.specs.Box.{Event};
 ghost use Rattle.store.specs.Sound.{sound};
 ghost use Rattle.depot.specs.Called.{Made, Tested, Called};
@@ -58,7 +59,7 @@ pub fn test(store: &[u8]) -> Answer
 
 // A frame that was judged sound is answered by the desk that it names.
 fn served(store: &mut [u8], frame: &[u8], f: Frame, out: &mut [u8]) -> Answer
-    requires { ⌜ (sound (now store) ≡ true) × (judged Way.Request (now frame) ≡ Verdict.wellFormed f) × (replyRoom ≤ length (now out)) ⌝ }
+    requires { ⌜ (sound (now store) ≡ true) × (judged Way.Request (now frame) ≡ Finding.found f) × (replyRoom ≤ length (now out)) ⌝ }
     ensures { λ r. ⌜ Called (Event.frame (now (frame .entry)) (length (now (out .entry)))) (now (store .entry)) (now (out .entry)) r (now (store .exit)) (now (out .exit)) ⌝ }
 {
     if no_desk(f.address as u64) {

@@ -10,10 +10,10 @@ use lib.ListN.{length, take, set, length-append, length-set}
 use lib.Seq.{take-all, take-nil, take-suc-set, take-append-le, set-out}
 use Rattle.octets.specs.Tests.{allOf}
 use Rattle.feeding.specs.declared.Begun.{Begun}
-use Rattle.text.specs.Digits.{isHex}
+use Rattle.digits.specs.Digits.{isHex}
 use Rattle.text.specs.Listing.{odd}
 use Rattle.feeding.specs.Feeding.{Fed, noneFed, Feeds, fedOne}
-use Rattle.text.proofs.Values.{all-snoc}
+use Rattle.digits.proofs.Values.{all-snoc}
 
 pub fed-none : (held : List ℕ) → Fed [] noneFed held
 unfolding odd allOf

@@ -11,11 +11,11 @@ use lib.Seq.{length-take-le, take-all}
 use Rattle.octets.specs.Tests.{allOf}
 use Rattle.frame.specs.Shape.{replyRoom}
 use Rattle.feeding.specs.declared.Begun.{Begun}
-use Rattle.text.specs.Digits.{isHex, octetsOf}
+use Rattle.digits.specs.Digits.{isHex, octetsOf}
 use Rattle.text.specs.Listing.{Line, frame, notRead, odd, otherLine, lineOf}
 use Rattle.answering.specs.Answered.{Answered}
 use Rattle.feeding.specs.Feeding.{Fed, readOff, ReadOff, heldRoom}
-use Rattle.text.proofs.Values.{octets-length}
+use Rattle.digits.proofs.Values.{octets-length}
 use Rattle.answering.proofs.Long.{long-called}
 use Rattle.answering.proofs.NoHex.{long-other}
 

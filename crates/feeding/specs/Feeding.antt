@@ -8,7 +8,7 @@ use lib.Dec.{ltb}
 use Rattle.octets.specs.Tests.{allOf}
 use Rattle.frame.specs.Shape.{replyRoom}
 use Rattle.feeding.specs.declared.Begun.{Begun}
-use Rattle.text.specs.Digits.{isHex, octetsOf}
+use Rattle.digits.specs.Digits.{isHex, octetsOf}
 use Rattle.text.specs.Listing.{Line, frame, notRead, odd, otherLine, lineOf}
 use Rattle.answering.specs.Answered.{Answered}
 

@@ -1,15 +1,15 @@
 // The listing's lines: a line is fed octet by octet, however long it is, and then answered by the box.
 use answering::framed;
 use answering::other;
+use digits::read::is_hex;
 use frame::Advanced;
 use octets::least;
-use text::digits::is_hex;
 use text::print::not_read;
 ghost use mathlib.Core.Path.{_≡_};
 ghost use mathlib.Core.Bool.{not, _||_};
 ghost use Prim.Native.Nat.{_≤_};
 ghost use lib.ListN.{length};
-ghost use Rattle.text.specs.Digits.{isHex};
+ghost use Rattle.digits.specs.Digits.{isHex};
 ghost use Rattle.text.specs.Listing.{longestLine};
 ghost use Rattle.feeding.specs.Feeding.{Starts, Feeds, ReadOff};
 

@@ -6,12 +6,11 @@ use mathlib.Core.Bool.{Bool}
 use mathlib.Core.List.{List}
 use mathlib.Core.Option.{Option, none, some}
 use native.Mathlib.Omega.{arith}
-use lib.ListN.{length}
 use Rattle.octets.specs.Tests.{first}
 use Rattle.frame.specs.declared.Refusal.{Refusal}
 use Rattle.frame.specs.Refusal.{numberOf}
+use Rattle.frame.specs.Finding.{finding}
 use Rattle.frame.proofs.Numbers.{refuses-number}
-use Rattle.rules.specs.declared.Seen.{Seen}
 use Rattle.rules.specs.declared.Seen.the-variants.{Ignored, Lost, Recorded}
 use Rattle.rules.specs.declared.Written.{Written}
 use Rattle.rules.specs.Box.{Event}
@@ -19,7 +18,7 @@ use Rattle.rules.proofs.Output.{wrote-refused}
 use Rattle.depot.specs.declared.Answer.{Answer}
 use Rattle.depot.specs.Called.{testRefusals, TestedOf, freshRefusals, MadeOf}
 use Rattle.reader.specs.declared.Told.{Told}
-use Rattle.reader.specs.Reader.{finding, readerRefusals, readAs}
+use Rattle.reader.specs.Reader.{readerRefusals, readAs}
 use Rattle.requests.specs.declared.Request.{Request}
 use Rattle.codes.specs.Codes.{In, refused, codeOf, writtenCode, readCode}
 use Rattle.demands.specs.Answers.{testsOf}

@@ -132,8 +132,8 @@ pub fn legal(p: &[u8], n: usize, valid: u16) -> bool
         return true;
     }
     let a = load(p, n);
-    if !locks::each_legal(a, n, valid) {
+    if !locklegal::each_legal(a, n, valid) {
         return false;
     }
-    locks::all_differ(a, n)
+    locklegal::all_differ(a, n)
 }

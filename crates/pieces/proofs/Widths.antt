@@ -11,7 +11,7 @@ use Rattle.octets.specs.Parts.{part}
 use Rattle.octets.proofs.Tests.{both, and-right}
 use Rattle.octets.proofs.Puts.{part-length}
 use Rattle.rules.specs.Config.{useLegal, charLegal, lenLegal, shapeLegal, lineLegal, blockSize}
-use Rattle.hex.proofs.Digits.{hex-length}
+use Rattle.digits.proofs.Pairs.{hex-length}
 use Rattle.rules.specs.Line.{hex, shown, heading, separator, ending, line}
 use Rattle.pieces.specs.Pieces.{shownWidth, widthOf}
 

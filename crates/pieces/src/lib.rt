@@ -123,7 +123,7 @@ fn put_shown(usage: u8, s: &[u8], out: &mut [u8], at: usize) -> usize
     ensures { λ r. ⌜ (r ≡ at + length (shown usage (now (s .entry)))) × (now (out .exit) ≡ put at (shown usage (now (s .entry))) (now (out .entry))) ⌝ }
 {
     if usage == 2 {
-        hex::put_hex(s, out, at);
+        digits::hex::put_hex(s, out, at);
         return at + 2 * s.len();
     }
     octets::copy_to(out, at, s);

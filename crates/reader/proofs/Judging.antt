@@ -13,22 +13,23 @@ use Rattle.octets.specs.Numbers.{u16At}
 use Rattle.octets.proofs.Tests.{first-none, first-given}
 use Rattle.frame.specs.declared.Way.the-variants.{Reply}
 use Rattle.frame.specs.declared.Frame.{Frame}
-use Rattle.frame.specs.Judged.{faults, partsOf, dataOf, refused as faulty, wellFormed, judged}
+use Rattle.frame.specs.Finding.{refused, found}
+use Rattle.frame.specs.Judged.{faults, partsOf, dataOf, judged}
 use Rattle.frame.proofs.Verdict.{sound-parts, sound-first, refused-first}
 use Rattle.table.specs.Entries.{recordWidth}
 use Rattle.requests.specs.declared.Request.{Request}
 use Rattle.requests.specs.Request.{controlOf}
 use Rattle.possible.specs.Possible.{possible}
 use Rattle.reader.specs.declared.Told.{Told}
-use Rattle.reader.specs.Reader.{sameKind, toldOf, countRight, answersTo, readerRefusals, refused, found, readAs}
+use Rattle.reader.specs.Reader.{sameKind, toldOf, countRight, answersTo, readerRefusals, readAs}
 
 -- ---- the verdict
 
-pub read-refused : (q : Request) (s : List ℕ) (n : ℕ) → judged Reply s ≡ faulty n → refused n ≡ readAs q s
+pub read-refused : (q : Request) (s : List ℕ) (n : ℕ) → judged Reply s ≡ refused n → refused n ≡ readAs q s
 unfolding readAs readerRefusals
 read-refused q s n e = rw (first-given n (faults Reply s) ((8, not (answersTo q (partsOf Reply s) s)) ∷ []) (refused-first Reply s n e))
 
-module _ (q : Request) (s : List ℕ) (f : Frame) (is : judged Reply s ≡ wellFormed f) where
+module _ (q : Request) (s : List ℕ) (f : Frame) (is : judged Reply s ≡ found f) where
   only : first (readerRefusals q s) ≡ first ((8, not (answersTo q f s)) ∷ [])
   unfolding readerRefusals
   only =
@@ -44,7 +45,7 @@ module _ (q : Request) (s : List ℕ) (f : Frame) (is : judged Reply s ≡ wellF
   read-other a = rw (only, a)
 
 -- the data of a sound reply stand behind its status
-pub reply-start : (s : List ℕ) (f : Frame) → judged Reply s ≡ wellFormed f → 1 ≤ f .start
+pub reply-start : (s : List ℕ) (f : Frame) → judged Reply s ≡ found f → 1 ≤ f .start
 unfolding partsOf
 reply-start s f is = rw (sound-parts Reply s f is) (omega arith)
 

@@ -20,6 +20,7 @@ use Rattle.frame.specs.declared.Kind.the-variants.{Standard, Advanced}
 use Rattle.frame.specs.declared.Way.the-variants.{Reply}
 use Rattle.frame.specs.declared.Frame.{Frame}
 use Rattle.frame.specs.Shape.{shapeOf, overhead, frameWith}
+use Rattle.frame.specs.Finding.{found}
 use Rattle.frame.specs.Judged.{faults, partsOf, dataOf}
 use Rattle.frame.specs.Sealed.{frameOf}
 use Rattle.frame.proofs.ReadBack.{reply-back, reply-parts, reply-data, status-back}
@@ -40,7 +41,7 @@ use Rattle.requests.specs.Request.{controlOf, dataFor, fieldsHold}
 use Rattle.requests.proofs.Asked.{answerTo, asked-open}
 use Rattle.possible.specs.Possible.{possible}
 use Rattle.possible.proofs.Answers.{answer-possible}
-use Rattle.reader.specs.Reader.{sameKind, toldOf, countRight, answersTo, readerRefusals, found, readAs}
+use Rattle.reader.specs.Reader.{sameKind, toldOf, countRight, answersTo, readerRefusals, readAs}
 
 -- ---- the record count
 

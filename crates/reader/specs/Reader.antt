@@ -2,7 +2,6 @@
 use Prim.Native.Nat.{ℕ, _+_, _-_, _*_}
 use mathlib.Core.Bool.{Bool, true, false, not, _&&_, _||_}
 use mathlib.Core.List.{List, [], _∷_, _++_}
-use mathlib.Core.Option.{Option, none, some}
 use lib.ListN.{length, getD}
 use lib.Dec.{eqb}
 use Rattle.octets.specs.Tests.{first}
@@ -12,6 +11,7 @@ use Rattle.frame.specs.declared.Kind.the-variants.{Standard, Advanced}
 use Rattle.frame.specs.declared.Way.the-variants.{Reply}
 use Rattle.frame.specs.declared.Frame.{Frame}
 use Rattle.frame.specs.Refusal.{numberOf}
+use Rattle.frame.specs.Finding.{Finding, refused, found, finding}
 use Rattle.frame.specs.Judged.{faults, partsOf, dataOf}
 use Rattle.table.specs.Entries.{recordWidth}
 use Rattle.requests.specs.declared.Request.{Request}
@@ -46,18 +46,10 @@ unfoldable pub readerRefusals : Request → List ℕ → List (ℕ × Bool)
 readerRefusals q s = faults Reply s ++ ((8, not (answersTo q (partsOf Reply s) s)) ∷ [])
 
 -- what is read: refused with the paper's number; or status, and where the data lie
-pub data Finding : Type 0 where
-  refused : ℕ → Finding
-  found : Told → Finding
-
-abbrev pub finding : Option ℕ → Told → Finding
-finding none t = found t
-finding (some n) t = refused n
-
-unfoldable pub readAs : Request → List ℕ → Finding
+unfoldable pub readAs : Request → List ℕ → Finding Told
 readAs q s = finding (first (readerRefusals q s)) (toldOf (partsOf Reply s) s)
 
 -- what the code's answer says of it
-abbrev pub findingOf : Reading → Finding
+abbrev pub findingOf : Reading → Finding Told
 findingOf (Sound t) = found t
 findingOf (Refused r) = refused (numberOf r)

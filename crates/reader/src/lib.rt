@@ -12,7 +12,8 @@ use requests::control_of;
 ghost use mathlib.Core.Path.{_≡_};
 ghost use Rattle.frame.specs.declared.Way.{Way};
 ghost use Rattle.frame.specs.Shape.{frameWith};
-ghost use Rattle.frame.specs.Judged.{Verdict, judged};
+ghost use Rattle.frame.specs.Finding.{Finding};
+ghost use Rattle.frame.specs.Judged.{judged};
 ghost use Rattle.requests.specs.Request.{controlOf};
 ghost use Rattle.reader.specs.Reader.{sameKind, toldOf, countRight, answersTo, readAs, findingOf};
 
@@ -61,7 +62,7 @@ fn count_right(control: u8, sent: &[u8]) -> bool
 
 // The status, and where the data lie, of a sound frame.
 fn told_of(f: Frame, reply: &[u8]) -> Told
-    requires { ⌜ judged Way.Reply (now reply) ≡ Verdict.wellFormed f ⌝ }
+    requires { ⌜ judged Way.Reply (now reply) ≡ Finding.found f ⌝ }
     ensures { λ r. ⌜ r ≡ toldOf f (now (reply .entry)) ⌝ }
 {
     let start = f.start;
@@ -87,7 +88,7 @@ fn reply_to(q: Request, address: u8, len: usize) -> Frame
 
 // Whether a sound frame answers the request.
 fn answers_to(q: Request, f: Frame, t: Told, reply: &[u8]) -> bool
-    requires { ⌜ (judged Way.Reply (now reply) ≡ Verdict.wellFormed f) × (t ≡ toldOf f (now reply)) ⌝ }
+    requires { ⌜ (judged Way.Reply (now reply) ≡ Finding.found f) × (t ≡ toldOf f (now reply)) ⌝ }
     ensures { λ r. ⌜ r ≡ answersTo q f (now (reply .entry)) ⌝ }
 {
     let wanted = reply_to(q, f.address, f.len);
@@ -112,7 +113,7 @@ fn answers_to(q: Request, f: Frame, t: Told, reply: &[u8]) -> bool
 
 // A sound frame is the reply, or it is refused.
 fn read_sound(q: Request, f: Frame, reply: &[u8]) -> Reading
-    requires { ⌜ judged Way.Reply (now reply) ≡ Verdict.wellFormed f ⌝ }
+    requires { ⌜ judged Way.Reply (now reply) ≡ Finding.found f ⌝ }
     ensures { λ r. ⌜ findingOf r ≡ readAs q (now (reply .entry)) ⌝ }
 {
     let t = told_of(f, reply);

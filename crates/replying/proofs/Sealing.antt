@@ -11,7 +11,8 @@ use Rattle.frame.specs.declared.Kind.{Kind}
 use Rattle.frame.specs.declared.Way.the-variants.{Request, Reply}
 use Rattle.frame.specs.Shape.{shapeOf, replyRoom, overhead, dataAt}
 use Rattle.frame.specs.declared.Frame.{Frame}
-use Rattle.frame.specs.Judged.{wellFormed, judged, dataOf}
+use Rattle.frame.specs.Finding.{found}
+use Rattle.frame.specs.Judged.{judged, dataOf}
 use Rattle.frame.specs.Sealed.{frameOf}
 use Rattle.frame.proofs.Bounds.{longest-fits}
 use Rattle.frame.proofs.Lengths.{length-frame}
@@ -53,7 +54,7 @@ module _ (k : Kind) (adr ctl status : ℕ) (sent out out′ : List ℕ) (room : 
       ∙ put-over at sent 0 (frameOf k adr ctl (status ∷ sent)) out (omega arith) (omega (arith, length-frame k adr ctl (status ∷ sent))))
 
 -- what the desk's command left, sealed
-module _ (f s s′ out out′ body : List ℕ) (p : Frame) (r : DeskReply) (q : sound s ≡ true) (is : judged Request f ≡ wellFormed p) (room : replyRoom ≤ length out)
+module _ (f s s′ out out′ body : List ℕ) (p : Frame) (r : DeskReply) (q : sound s ≡ true) (is : judged Request f ≡ found p) (room : replyRoom ≤ length out)
     (low : p .address < desks) (same : body ≡ dataOf p f)
     (y : Obeyed (p .address) (p .kind) (answered (p .kind) (kept (p .address) s) (p .control) body) r s s′ out out′) where
   abbrev res : Result

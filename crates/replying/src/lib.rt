@@ -7,14 +7,15 @@ ghost use Prim.Native.Nat.{_≤_, _<_};
 ghost use lib.ListN.{length};
 ghost use Rattle.frame.specs.declared.Way.{Way};
 ghost use Rattle.frame.specs.Shape.{replyRoom};
-ghost use Rattle.frame.specs.Judged.{Verdict, judged};
+ghost use Rattle.frame.specs.Finding.{Finding};
+ghost use Rattle.frame.specs.Judged.{judged};
 ghost use Rattle.table.specs.Entries.{desks};
 ghost use Rattle.store.specs.Sound.{sound};
 ghost use Rattle.replying.specs.Replied.{Replied};
 
 // The desk that the frame names answers it; how many octets the reply has.
 pub fn reply(store: &mut [u8], frame: &[u8], f: Frame, out: &mut [u8]) -> usize
-    requires { ⌜ (sound (now store) ≡ true) × (judged Way.Request (now frame) ≡ Verdict.wellFormed f) × (f .address < desks) × (replyRoom ≤ length (now out)) ⌝ }
+    requires { ⌜ (sound (now store) ≡ true) × (judged Way.Request (now frame) ≡ Finding.found f) × (f .address < desks) × (replyRoom ≤ length (now out)) ⌝ }
     ensures { λ r. ⌜ Replied (now (frame .entry)) (now (store .entry)) (now (out .entry)) r (now (store .exit)) (now (out .exit)) ⌝ }
 {
     let address = f.address;

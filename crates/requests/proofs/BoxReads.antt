@@ -10,7 +10,8 @@ use Rattle.frame.specs.declared.Kind.the-variants.{Standard, Advanced}
 use Rattle.frame.specs.declared.Way.the-variants.{Request}
 use Rattle.frame.specs.declared.Frame.{Frame}
 use Rattle.frame.specs.Shape.{shapeOf, replyRoom, overhead, frameWith}
-use Rattle.frame.specs.Judged.{wellFormed, judged, dataOf}
+use Rattle.frame.specs.Finding.{found}
+use Rattle.frame.specs.Judged.{judged, dataOf}
 use Rattle.frame.specs.Sealed.{frameOf}
 use Rattle.frame.proofs.ReadBack.{request-back, request-parts, request-data}
 use Rattle.table.specs.Entries.{desks}
@@ -59,7 +60,7 @@ module _ (q : Asked) (size : length (q .bytes) ≡ blockSize) where
   request-fits = few-fit (q .kind) (length (dataFor q)) (omega (arith, body-size (q .ask) (q .bytes) size, few (q .ask)))
 
   -- exactly that kind, desk, control byte and data
-  pub box-judges : judged Request (requestFrame q) ≡ wellFormed parts
+  pub box-judges : judged Request (requestFrame q) ≡ found parts
   unfolding requestFrame
   box-judges = request-back (q .kind) (q .desk) (controlOf (q .ask)) (dataFor q) request-fits
 

@@ -1,6 +1,6 @@
 -- A request: what is asked of a desk, as the octets of a frame, and whether its values are in range. Assumes nothing.
 use Prim.Native.Nat.{ℕ, _^_}
-use mathlib.Core.Bool.{Bool, true, false, not, _&&_}
+use mathlib.Core.Bool.{Bool, true, not, _&&_}
 use mathlib.Core.List.{List, [], _∷_}
 use lib.Dec.{eqb, ltb}
 use Rattle.octets.specs.Numbers.{octets}

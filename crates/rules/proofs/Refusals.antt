@@ -8,7 +8,8 @@ use Rattle.octets.specs.Tests.{first}
 use Rattle.frame.specs.declared.Way.the-variants.{Request}
 use Rattle.frame.specs.declared.Frame.{Frame}
 use Rattle.frame.specs.Shape.{replyRoom}
-use Rattle.frame.specs.Judged.{faults, refused, wellFormed, judged}
+use Rattle.frame.specs.Finding.{refused, found}
+use Rattle.frame.specs.Judged.{faults, judged}
 use Rattle.octets.proofs.Tests.{first-none, first-given}
 use Rattle.frame.proofs.Verdict.{sound-parts, sound-first, refused-first}
 use Rattle.table.specs.Entries.{desks}
@@ -26,7 +27,7 @@ module _ (f : List ℕ) (room : ℕ) where
     unfolding frameRefusals first
     judge-refused n e = rw (le-ltb room replyRoom enough) (first-given n (faults Request f) _ (refused-first Request f n e))
 
-    module _ (p : Frame) (e : judged Request f ≡ wellFormed p) where
+    module _ (p : Frame) (e : judged Request f ≡ found p) where
       pub no-desk : desks ≤ p .address → first (frameRefusals f room) ≡ some 5
       unfolding frameRefusals first request
       no-desk h = rw (le-ltb room replyRoom enough, first-none (faults Request f) ((5, noDesk (request f .address)) ∷ []) (sound-first Request f p e), ← sound-parts Request f p e, le-leb desks (p .address) h)

@@ -3,7 +3,7 @@ use Prim.Native.Nat.{ℕ}
 use mathlib.Core.Path.{_≡_, refl}
 use mathlib.Core.List.{List, [], _∷_, _++_}
 use Rattle.rules.proofs.Computed.{computed}
-use Rattle.text.specs.Digits.{between, isHex, valueOf, octetsOf, lastDigits, placesOf, decimalOf}
+use Rattle.digits.specs.Digits.{between, isHex, valueOf, octetsOf, lastDigits, placesOf, decimalOf}
 use Rattle.text.specs.Listing.{odd, isTick, isSighting, sightingOf, otherLine, lineOf, numberLine, refusedLine, hexLine, seenLine, okLine, notReadLine}
 use Rattle.text.specs.Whole.{lf, lastLine, linesFrom, answerLine, answerTo, said, printedFrom, listing}
 

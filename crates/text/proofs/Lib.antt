@@ -1,4 +1,2 @@
-pub mod Values
-pub mod Decimals
 pub mod Printing
 pub mod Example

@@ -8,14 +8,14 @@ use lib.ListN.{length, set, take, length-append, length-take}
 use Rattle.octets.specs.Parts.{put}
 use Rattle.octets.proofs.Puts.{put-append, put-one}
 use Rattle.rules.specs.Line.{hex}
-use Rattle.hex.proofs.Digits.{hex-length}
+use Rattle.digits.proofs.Pairs.{hex-length}
 use Rattle.rules.specs.declared.Seen.the-variants.{Ignored, Lost, Recorded}
 use Rattle.depot.specs.declared.Answer.{Answer}
 use Rattle.depot.specs.declared.Answer.the-variants.{Refused, Reply, Sighted, Done}
 use Rattle.depot.proofs.Short.{Short}
 use Rattle.frame.specs.Refusal.{numberOf}
-use Rattle.text.specs.Digits.{placesOf, decimalOf}
-use Rattle.text.proofs.Decimals.{places-most, decimal-length}
+use Rattle.digits.specs.Digits.{placesOf, decimalOf}
+use Rattle.digits.proofs.Decimals.{places-most, decimal-length}
 use Rattle.text.specs.Listing.{wordRoom, longestLine, numberLine, refusedLine, hexLine, seenLine, okLine, printed}
 
 pub hex-line-length : (s : List ℕ) → length (hexLine s) ≡ 2 * length s + 1

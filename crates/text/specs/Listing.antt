@@ -15,7 +15,7 @@ use Rattle.rules.specs.declared.Seen.the-variants.{Ignored, Lost, Recorded}
 use Rattle.rules.specs.Line.{hex}
 use Rattle.depot.specs.declared.Answer.{Answer}
 use Rattle.depot.specs.declared.Answer.the-variants.{Refused, Reply, Sighted, Done}
-use Rattle.text.specs.Digits.{decimal, isHex, octetsOf, decimalOf}
+use Rattle.digits.specs.Digits.{decimal, isHex, octetsOf, decimalOf}
 
 -- ---- what a line says
 

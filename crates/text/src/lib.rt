@@ -1,11 +1,10 @@
-// The words of the listing: digits, the marks by which a line is told, and what is printed for an answer.
-use digits::all_hex;
-use digits::between;
+// The words of the listing: the marks by which a line is told, and what is printed for an answer.
+use digits::read::all_hex;
+use digits::read::between;
 use frame::Advanced;
 ghost use mathlib.Core.Path.{_≡_};
 ghost use Rattle.text.specs.Listing.{isTick, isSighting};
 
-pub mod digits;
 pub mod print;
 
 // The longest line that is printed: the digits of the longest reply, and LF.

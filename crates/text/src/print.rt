@@ -1,5 +1,7 @@
 // What is printed for an answer, written at the start of an output that has room for it. Each gives how many octets.
 use depot::Answer;
+use digits::decimal::put_decimal;
+use digits::hex::put_hex;
 use frame::Refusal;
 use octets::least;
 use rules::Seen;
@@ -8,7 +10,6 @@ ghost use Prim.Native.Nat.{_+_, _≤_};
 ghost use lib.ListN.{length};
 ghost use Rattle.frame.specs.Refusal.{numberOf};
 ghost use Rattle.octets.specs.Parts.{put};
-ghost use Rattle.text.specs.Digits.{placesOf, decimalOf};
 ghost use Rattle.text.specs.Listing.{wordRoom, Printed, printed, numberLine, refusedLine, hexLine, seenLine, notReadLine};
 
 // Writes a text.
@@ -25,42 +26,10 @@ fn say_hex(s: &[u8], out: &mut [u8]) -> usize
     requires { ⌜ length (hexLine (now s)) ≤ length (now out) ⌝ }
     ensures { λ r. ⌜ Printed (hexLine (now (s .entry))) (now (out .entry)) r (now (out .exit)) ⌝ }
 {
-    hex::put_hex(s, out, 0);
+    put_hex(s, out, 0);
     let end = 2 * s.len();
     out[end] = b'\n';
     end + 1
-}
-
-// How many decimal digits a number has.
-fn places(n: u16) -> usize
-    ensures { λ r. ⌜ r ≡ placesOf n ⌝ }
-{
-    if n < 10 {
-        return 1;
-    }
-    if n < 100 {
-        return 2;
-    }
-    if n < 1000 {
-        return 3;
-    }
-    if n < 10000 { 4 } else { 5 }
-}
-
-// Writes a number in decimal from a place on, beginning with its last digit, and says how many digits it has.
-fn put_decimal(n: u16, out: &mut [u8], at: usize) -> usize
-    requires { ⌜ at + 5 ≤ length (now out) ⌝ }
-    ensures { λ r. ⌜ (r ≤ 5) × (r ≡ length (decimalOf n)) × (now (out .exit) ≡ put at (decimalOf n) (now (out .entry))) ⌝ }
-{
-    let k = places(n);
-    let mut left = n;
-    let mut i = k;
-    while 0 < i {
-        i -= 1;
-        out[at + i] = b'0' + (left % 10) as u8;
-        left /= 10;
-    }
-    k
 }
 
 // Writes a word and a number in decimal as a line.

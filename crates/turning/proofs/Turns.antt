@@ -11,7 +11,7 @@ use Rattle.octets.proofs.Puts.{put-length}
 use Rattle.octets.proofs.Lent.{put-mid}
 use Rattle.text.specs.Listing.{longestLine}
 use Rattle.text.specs.Whole.{lf}
-use Rattle.text.proofs.Values.{rest-of}
+use Rattle.digits.proofs.Values.{rest-of}
 use Rattle.answering.proofs.Room.{answered-text}
 use Rattle.feeding.specs.declared.Begun.{Begun}
 use Rattle.feeding.specs.Feeding.{noneFed, Feeds, readOff, ReadOff}

@@ -1,27 +1,29 @@
 -- What the data of a reply say, from what was read of them. Assumes nothing.
-use Prim.Native.Nat.{ℕ, zero, suc, _+_, _*_, _≤_, _<_}
+use Prim.Native.Nat.{ℕ, _+_, _*_, _≤_, _<_}
 use mathlib.Core.Path.{_≡_, refl, sym, ap, _∙_}
 use mathlib.Core.Bool.{Bool, true, false, cond, not, _&&_, and-false}
 use mathlib.Core.List.{List, []}
-use mathlib.Core.Option.{Option, none, some, Option·none-ne-some}
+use mathlib.Core.Option.{none, some, Option·none-ne-some}
 use native.Mathlib.Omega.{arith}
 use lib.Dec.{eqb, ltb, leb, lit≤}
 use lib.ListN.{length, getD, replicate}
 use lib.Seq.{take-all}
-use borrow.Author.Tests.{eq-eqb, ne-eqb, eqb-true, lt-ltb, le-ltb, le-leb, lt-leb, not-false}
+use borrow.Author.Tests.{eq-eqb, ne-eqb, eqb-true, lt-ltb, le-leb, lt-leb, not-false}
 use Rattle.octets.specs.Tests.{first}
 use Rattle.octets.proofs.Tests.{none-head}
 use Rattle.octets.specs.Parts.{part, put}
 use Rattle.octets.specs.Numbers.{number, u16At}
 use Rattle.octets.proofs.Puts.{put-whole, part-part, part-at}
 use Rattle.frame.specs.declared.Refusal.the-variants.{NotTheReply}
+use Rattle.frame.specs.Finding.{refused, found, finding}
+use Rattle.frame.proofs.Finding.{finding-found, finding-refused}
 use Rattle.timer.specs.declared.Timer.{Timer}
 use Rattle.timer.specs.Clock.{timerFrom}
 use Rattle.table.specs.Entries.{recordWidth, share}
 use Rattle.rules.specs.Config.{blockSize}
 use Rattle.rules.specs.Records.{recordsFor}
 use Rattle.typed.specs.declared.Whether.the-variants.{There, Refused}
-use Rattle.typed.specs.Typed.{refused, says, unless, otherLength, bytesOf, BlockSaid, blockTold, timerTold, sizesTold, readData, countRefusals, countTold, sightingFrom, recordRefusals, recordTold}
+use Rattle.typed.specs.Typed.{otherLength, bytesOf, BlockSaid, blockTold, timerTold, readData, countRefusals, countTold, sightingFrom, recordRefusals, recordTold}
 
 -- ---- by its length
 
@@ -52,11 +54,11 @@ pub block-said : (sent zeros b : List ℕ) → length sent ≡ blockSize → len
 unfolding blockTold bytesOf
 block-said sent zeros b e z h =
     let same : b ≡ sent = h ∙ put-whole sent zeros (e ∙ sym z) in
-    record { said = rw (right-length blockSize sent e) (ap says same); bytes-are = rw (eq-eqb _ _ e) same }
+    record { said = rw (right-length blockSize sent e) (ap found same); bytes-are = rw (eq-eqb _ _ e) same }
 
-pub timer-told : (sent : List ℕ) (t : Timer) → length sent ≡ 4 → t ≡ timerFrom (part 0 4 sent) → says t ≡ timerTold sent
+pub timer-told : (sent : List ℕ) (t : Timer) → length sent ≡ 4 → t ≡ timerFrom (part 0 4 sent) → found t ≡ timerTold sent
 unfolding timerTold part
-timer-told sent t e h = rw (right-length 4 sent e) (ap says (h ∙ ap timerFrom (take-all 4 sent (omega arith))))
+timer-told sent t e h = rw (right-length 4 sent e) (ap found (h ∙ ap timerFrom (take-all 4 sent (omega arith))))
 
 -- ---- the data of a reply to 0x22
 
@@ -89,9 +91,9 @@ module _ (sent : List ℕ) where
   unfolding countTold countRefusals first
   count-refused e = rw e
 
-  pub count-said : (n : ℕ) → readData sent ≡ true → n ≡ recordsFor (length sent) → says n ≡ countTold sent
+  pub count-said : (n : ℕ) → readData sent ≡ true → n ≡ recordsFor (length sent) → found n ≡ countTold sent
   unfolding countTold countRefusals first
-  count-said n e h = rw e (ap says h)
+  count-said n e h = rw e (ap found h)
 
 -- ---- record i
 
@@ -107,7 +109,7 @@ module _ (sent : List ℕ) (i : ℕ) where
 
     -- which begins at a place
     pub record-told : readData sent ≡ true → (at uid : ℕ) (t : Timer) (mask : ℕ) → at ≡ 2 + i * recordWidth → uid ≡ number (part at 8 sent)
-        → t ≡ timerFrom (part (at + 8) 4 sent) → mask ≡ getD sent (at + 12) 0 → says (record { uid = uid; timer = t; mask = mask }) ≡ recordTold sent i
+        → t ≡ timerFrom (part (at + 8) 4 sent) → mask ≡ getD sent (at + 12) 0 → found (record { uid = uid; timer = t; mask = mask }) ≡ recordTold sent i
     unfolding recordTold recordRefusals countRefusals sightingFrom first
     record-told e at uid t mask there u w m =
         let at-zero : at + 0 ≡ at = omega arith in
@@ -126,27 +128,19 @@ module _ (sent : List ℕ) (i : ℕ) where
 
 -- ---- read back from what was told
 
-pub unless-says : {A : Type 0} (o : Option ℕ) (a b : A) → says b ≡ unless o a → (o ≡ none) × (b ≡ a)
-unless-says none a b e = (refl, cc)
-unless-says (some n) a b e = let z : _≡_ {A = ℕ} 0 1 = cc in absurd (omega arith)
-
-pub unless-refused : {A : Type 0} (o : Option ℕ) (a : A) (n : ℕ) → refused n ≡ unless o a → o ≡ some n
-unless-refused none a n e = let z : _≡_ {A = ℕ} 0 1 = cc in absurd (omega arith)
-unless-refused (some m) a n e = cc
-
-pub length-is : (size : ℕ) (sent b : List ℕ) → says b ≡ unless (first (otherLength size sent)) sent → length sent ≡ size
+pub length-is : (size : ℕ) (sent b : List ℕ) → found b ≡ finding (first (otherLength size sent)) sent → length sent ≡ size
 unfolding otherLength
-length-is size sent b e = eqb-true _ _ (not-false _ (none-head 8 (not (eqb (length sent) size)) [] (unless-says _ sent b e .0)))
+length-is size sent b e = eqb-true _ _ (not-false _ (none-head 8 (not (eqb (length sent) size)) [] (finding-found _ sent b e .0)))
 
-pub count-is : (sent : List ℕ) (m : ℕ) → says m ≡ countTold sent → (readData sent ≡ true) × (m ≡ recordsFor (length sent))
+pub count-is : (sent : List ℕ) (m : ℕ) → found m ≡ countTold sent → (readData sent ≡ true) × (m ≡ recordsFor (length sent))
 unfolding countTold countRefusals
 count-is sent m e =
-    let u = unless-says (first (countRefusals sent)) (recordsFor (length sent)) m e in
+    let u = finding-found (first (countRefusals sent)) (recordsFor (length sent)) m e in
     (not-false _ (none-head 8 (not (readData sent)) [] (u .0)), u .1)
 
 pub count-not : (sent : List ℕ) (n : ℕ) → refused n ≡ countTold sent → readData sent ≡ false
 unfolding countTold countRefusals first
-count-not sent n e = go (readData sent) (unless-refused (first (countRefusals sent)) (recordsFor (length sent)) n e)
+count-not sent n e = go (readData sent) (finding-refused (first (countRefusals sent)) (recordsFor (length sent)) n e)
   where
     go : (b : Bool) → cond (not b) (some 8) none ≡ some n → b ≡ false
     go true q = absurd (Option·none-ne-some n q)

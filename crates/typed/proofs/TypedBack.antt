@@ -21,30 +21,31 @@ use Rattle.timer.specs.Clock.{timerLegal, timerOctets, timerFrom}
 use Rattle.timer.proofs.Ranges.{timer-facts}
 use Rattle.timer.proofs.ReadBack.{timer-length, timer-back}
 use Rattle.frame.specs.declared.Kind.{Kind}
+use Rattle.frame.specs.Finding.{found}
 use Rattle.table.specs.Entries.{recordWidth, share}
 use Rattle.rules.specs.declared.control.TableCommand.the-variants.{SendTable}
 use Rattle.rules.specs.Desk.{Desk}
 use Rattle.rules.specs.Records.{recordOf, counted}
 use Rattle.rules.specs.Command.{result, tableEffect}
 use Rattle.rules.proofs.Facts.{TableLegal}
-use Rattle.typed.specs.Typed.{says, otherLength, blockTold, timerTold, sizesFrom, sizesTold, readData, countRefusals, countTold, sightingFrom, recordRefusals, recordTold}
+use Rattle.typed.specs.Typed.{otherLength, blockTold, timerTold, sizesFrom, sizesTold, readData, countRefusals, countTold, sightingFrom, recordRefusals, recordTold}
 use Rattle.rules.proofs.Counts.{records-back, counted-length, count-back}
 use Rattle.typed.proofs.Telling.{right-length}
 
-pub block-told : (bytes : List ℕ) → length bytes ≡ blockSize → blockTold bytes ≡ says bytes
+pub block-told : (bytes : List ℕ) → length bytes ≡ blockSize → blockTold bytes ≡ found bytes
 unfolding blockTold
 block-told bytes e = rw (right-length blockSize bytes e)
 
 ms-fits : (t : Timer) → timerLegal t ≡ true → t .ms < 65536
 ms-fits t e = omega (arith, timer-facts t e .ms)
 
-pub timer-told : (t : Timer) → timerLegal t ≡ true → timerTold (timerOctets t) ≡ says t
+pub timer-told : (t : Timer) → timerLegal t ≡ true → timerTold (timerOctets t) ≡ found t
 unfolding timerTold otherLength first
 timer-told t e = rw (timer-length t, timer-back t (ms-fits t e))
 
 -- what 0x31 sends
 pub sizes-told : (kind : Kind) (d : Desk) (body : List ℕ) → TableLegal (d .table)
-    → sizesTold (tableEffect SendTable kind d body .sent) ≡ says (record { size = share; start = d .table .start; len = length (d .table .held) })
+    → sizesTold (tableEffect SendTable kind d body .sent) ≡ found (record { size = share; start = d .table .start; len = length (d .table .held) })
 unfolding tableEffect result sizesTold sizesFrom otherLength first u16At part octets
 sizes-told kind d body p =
     let start : number (octets 2 (d .table .start)) ≡ d .table .start = number-octets 2 (d .table .start) (omega (arith, p .start)) in
@@ -62,7 +63,7 @@ module _ (rs : List (List ℕ)) (wide : Wide recordWidth rs) (some : 0 < length 
       let l : length (counted rs) ≡ 2 + length rs * recordWidth = counted-length rs wide in
       rw (n, lt-ltb 0 (length rs) some, le-leb (length rs) share few, eq-eqb (length (counted rs)) (2 + length rs * recordWidth) l) (or-true (eqb (length (counted rs)) 0))
 
-  pub count-told : countTold (counted rs) ≡ says (length rs)
+  pub count-told : countTold (counted rs) ≡ found (length rs)
   unfolding countTold countRefusals first
   count-told = rw (counted-data, counted-length rs wide, records-back (length rs))
 
@@ -81,7 +82,7 @@ module _ (rs : List (List ℕ)) (wide : Wide recordWidth rs) (i : ℕ) (h : i < 
       ∙ ap (λ (n : ℕ). part n recordWidth (joined rs)) (mul-comm i recordWidth)
       ∙ row-is
 
-  pub record-told : length rs ≤ share → recordTold (counted rs) i ≡ says (sightingFrom (getD rs i []))
+  pub record-told : length rs ≤ share → recordTold (counted rs) i ≡ found (sightingFrom (getD rs i []))
   unfolding recordTold recordRefusals countRefusals first
   record-told few = rw (counted-data rs wide (omega arith) few, counted-length rs wide, records-back (length rs), lt-leb (length rs) i h, record-is)
 

@@ -3,13 +3,13 @@ use Prim.Native.Nat.{ℕ, _+_, _*_}
 use mathlib.Core.Path.{_≡_}
 use mathlib.Core.Bool.{Bool, cond, not, _&&_, _||_}
 use mathlib.Core.List.{List, [], _∷_}
-use mathlib.Core.Option.{Option, none, some}
 use lib.ListN.{length, getD, replicate}
 use lib.Dec.{eqb, ltb, leb}
 use Rattle.octets.specs.Tests.{first}
 use Rattle.octets.specs.Parts.{part}
 use Rattle.octets.specs.Numbers.{number, u16At}
 use Rattle.frame.specs.Refusal.{numberOf}
+use Rattle.frame.specs.Finding.{Finding, refused, found, finding}
 use Rattle.timer.specs.declared.Timer.{Timer}
 use Rattle.timer.specs.Clock.{timerFrom}
 use Rattle.table.specs.Entries.{recordWidth, share}
@@ -29,30 +29,21 @@ use Rattle.typed.specs.declared.Sighting.{Sighting}
 use Rattle.typed.specs.declared.RecordTold.{RecordTold}
 use Rattle.typed.specs.declared.RecordTold.the-variants as row
 
--- refused with the paper's number, or what the data say
-pub data Typed (A : Type 0) : Type 0 where
-  refused : ℕ → Typed A
-  says : A → Typed A
-
-abbrev pub unless : {A : Type 0} → Option ℕ → A → Typed A
-unless none a = says a
-unless (some n) a = refused n
-
 -- 8: data of another length than a reply to that command carries
 unfoldable pub otherLength : ℕ → List ℕ → List (ℕ × Bool)
 otherLength size sent = (8, not (eqb (length sent) size)) ∷ []
 
 -- ---- 0x80: fourteen bytes
 
-unfoldable pub blockTold : List ℕ → Typed (List ℕ)
-blockTold sent = unless (first (otherLength blockSize sent)) sent
+unfoldable pub blockTold : List ℕ → Finding (List ℕ)
+blockTold sent = finding (first (otherLength blockSize sent)) sent
 
 -- as the code holds them: zeros where they are refused
 unfoldable pub bytesOf : List ℕ → List ℕ
 bytesOf sent = cond (eqb (length sent) blockSize) sent (replicate blockSize 0)
 
-abbrev pub saidBy : Whether → List ℕ → Typed (List ℕ)
-saidBy whether.There bytes = says bytes
+abbrev pub saidBy : Whether → List ℕ → Finding (List ℕ)
+saidBy whether.There bytes = found bytes
 saidBy (whether.Refused r) bytes = refused (numberOf r)
 
 pub record BlockSaid (sent : List ℕ) (b : Block) : Type 0 where
@@ -61,11 +52,11 @@ pub record BlockSaid (sent : List ℕ) (b : Block) : Type 0 where
 
 -- ---- 0x86: the timer
 
-unfoldable pub timerTold : List ℕ → Typed Timer
-timerTold sent = unless (first (otherLength 4 sent)) (timerFrom sent)
+unfoldable pub timerTold : List ℕ → Finding Timer
+timerTold sent = finding (first (otherLength 4 sent)) (timerFrom sent)
 
-abbrev pub timerSaid : TimerTold → Typed Timer
-timerSaid (timer.Timer t) = says t
+abbrev pub timerSaid : TimerTold → Finding Timer
+timerSaid (timer.Timer t) = found t
 timerSaid (timer.Refused r) = refused (numberOf r)
 
 -- ---- 0x31: TAB-SIZE, TAB-START, TAB-LEN
@@ -73,11 +64,11 @@ timerSaid (timer.Refused r) = refused (numberOf r)
 unfoldable pub sizesFrom : List ℕ → Sizes
 sizesFrom sent = record { size = u16At 0 sent; start = u16At 2 sent; len = u16At 4 sent }
 
-unfoldable pub sizesTold : List ℕ → Typed Sizes
-sizesTold sent = unless (first (otherLength 6 sent)) (sizesFrom sent)
+unfoldable pub sizesTold : List ℕ → Finding Sizes
+sizesTold sent = finding (first (otherLength 6 sent)) (sizesFrom sent)
 
-abbrev pub sizesSaid : SizesTold → Typed Sizes
-sizesSaid (sizes.Sizes s) = says s
+abbrev pub sizesSaid : SizesTold → Finding Sizes
+sizesSaid (sizes.Sizes s) = found s
 sizesSaid (sizes.Refused r) = refused (numberOf r)
 
 -- ---- 0x22: records
@@ -92,11 +83,11 @@ unfoldable pub countRefusals : List ℕ → List (ℕ × Bool)
 countRefusals sent = (8, not (readData sent)) ∷ []
 
 -- how many records they are
-unfoldable pub countTold : List ℕ → Typed ℕ
-countTold sent = unless (first (countRefusals sent)) (recordsFor (length sent))
+unfoldable pub countTold : List ℕ → Finding ℕ
+countTold sent = finding (first (countRefusals sent)) (recordsFor (length sent))
 
-abbrev pub countSaid : CountTold → Typed ℕ
-countSaid (count.Records n) = says n
+abbrev pub countSaid : CountTold → Finding ℕ
+countSaid (count.Records n) = found n
 countSaid (count.Refused r) = refused (numberOf r)
 
 -- a record: UID 8, timer 4, antenna mask 1
@@ -111,9 +102,9 @@ sightingAt sent i = sightingFrom (part (2 + i * recordWidth) recordWidth sent)
 unfoldable pub recordRefusals : List ℕ → ℕ → List (ℕ × Bool)
 recordRefusals sent i = (6, leb (recordsFor (length sent)) i) ∷ countRefusals sent
 
-unfoldable pub recordTold : List ℕ → ℕ → Typed Sighting
-recordTold sent i = unless (first (recordRefusals sent i)) (sightingAt sent i)
+unfoldable pub recordTold : List ℕ → ℕ → Finding Sighting
+recordTold sent i = finding (first (recordRefusals sent i)) (sightingAt sent i)
 
-abbrev pub recordSaid : RecordTold → Typed Sighting
-recordSaid (row.Record s) = says s
+abbrev pub recordSaid : RecordTold → Finding Sighting
+recordSaid (row.Record s) = found s
 recordSaid (row.Refused r) = refused (numberOf r)

@@ -7,8 +7,8 @@ use borrow.Author.Needs.{needs}
 use lib.ListN.{length, getD, length-replicate}
 use Rattle.depot.proofs.Short.{sighting-short}
 use Rattle.text.proofs.Printing.{room-for}
-use Rattle.text.proofs.Values.{nine-octets, rest-of}
-use Rattle.answering.proofs.NoHex.{sighting-facts, sighting-answered}
+use Rattle.digits.proofs.Values.{rest-of}
+use Rattle.answering.proofs.NoHex.{sighting-facts, nine-octets, sighting-answered}
 use Rattle.answering.proofs.sighted.Statement.{statement}
 use Rattle.answering.proofs.sighted.Tie as tie
 

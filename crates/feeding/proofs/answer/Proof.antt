@@ -5,9 +5,9 @@ use mathlib.Core.Path.{_≡_, refl, sym, ap, _∙_}
 use native.Mathlib.Omega.{arith}
 use borrow.Author.Needs.{needs}
 use lib.ListN.{take, length-take}
-use Rattle.text.specs.Digits.{octetsOf}
+use Rattle.digits.specs.Digits.{octetsOf}
 use Rattle.text.specs.Listing.{frame, notRead, otherLine}
-use Rattle.text.proofs.Values.{take-least}
+use Rattle.digits.proofs.Values.{take-least}
 use Rattle.feeding.proofs.Whole.{reads-long, reads-other, reads-odd, reads-frame, read-whole}
 use Rattle.feeding.proofs.answer.Statement.{statement}
 use Rattle.feeding.proofs.answer.Tie as tie

@@ -1,10 +1,8 @@
 -- `fields::record` meets its contract: not beyond the last, the room, then what was told. Assumes nothing.
 use Prim.Native.Nat.{_<_}
-use mathlib.Core.Path.{_≡_, refl, sym, ap, _∙_}
-use mathlib.Core.List.{_∷_}
+use mathlib.Core.Path.{refl, sym, ap, _∙_}
 use native.Mathlib.Omega.{arith}
 use lib.ListN.{length}
-use Rattle.octets.specs.Tests.{first}
 use Rattle.rules.specs.Records.{recordsFor}
 use Rattle.typed.specs.Typed.{countRefusals, sightingAt, recordTold, recordSaid}
 use Rattle.fields.specs.Fields.{recordFields}

@@ -1,10 +1,8 @@
 -- `lines::lines` meets its contract: block 7, then the data, then the room. Assumes nothing.
-use Prim.Native.Nat.{ℕ}
-use mathlib.Core.Path.{_≡_, sym, ap, _∙_}
-use lib.ListN.{length}
+use mathlib.Core.Path.{sym, ap, _∙_}
 use Rattle.octets.proofs.Tests.{passed, failed}
 use Rattle.frame.specs.Refusal.{numberOf}
-use Rattle.typed.specs.Typed.{says, countSaid, countTold}
+use Rattle.typed.specs.Typed.{countSaid}
 use Rattle.typed.proofs.Telling.{count-is, count-not}
 use Rattle.lines.proofs.Turns.{records-length}
 use Rattle.lines.proofs.Outcomes.{all-illegal, no-data}

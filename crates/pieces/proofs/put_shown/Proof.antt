@@ -1,7 +1,7 @@
 -- `pieces::put_shown` meets its contract. Assumes nothing.
 use native.Mathlib.Omega.{arith}
 use borrow.Author.Needs.{needs}
-use Rattle.hex.proofs.Digits.{hex-length}
+use Rattle.digits.proofs.Pairs.{hex-length}
 use Rattle.pieces.proofs.Widths.{shown-hex, shown-raw}
 use Rattle.pieces.proofs.put_shown.Statement.{statement}
 use Rattle.pieces.proofs.put_shown.Tie as tie

@@ -2,10 +2,10 @@
 use mathlib.Core.Path.{_≡_, ap, _∙_}
 use mathlib.Core.Bool.{false}
 use borrow.Author.Tests.{eq-eqb, ne-eqb}
-use Rattle.text.proofs.Values.{rest-of}
+use Rattle.digits.proofs.Values.{rest-of}
 use Rattle.octets.specs.Tests.{allOf}
 use Rattle.octets.proofs.Tests.{passed, failed}
-use Rattle.text.specs.Digits.{decimal, isHex}
+use Rattle.digits.specs.Digits.{decimal, isHex}
 use Rattle.text.specs.Listing.{isSighting}
 use borrow.Author.Needs.{needs}
 use lib.ListN.{getD}

@@ -3,7 +3,7 @@ use mathlib.Core.Path.{_∙_}
 use native.Mathlib.Omega.{arith}
 use borrow.Author.Needs.{needs}
 use lib.ListN.{length-set}
-use Rattle.text.proofs.Decimals.{decimal-length}
+use Rattle.digits.proofs.Decimals.{decimal-length}
 use Rattle.text.proofs.Printing.{number-line-length, number-line-put}
 use Rattle.text.proofs.print.say_number.Statement.{statement}
 use Rattle.text.proofs.print.say_number.Tie as tie

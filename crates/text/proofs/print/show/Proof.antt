@@ -3,7 +3,7 @@ use native.Mathlib.Omega.{arith}
 use borrow.Author.Needs.{needs}
 use lib.ListN.{length-take}
 use Rattle.text.specs.Listing.{okLine, printed}
-use Rattle.text.proofs.Values.{take-least}
+use Rattle.digits.proofs.Values.{take-least}
 use Rattle.text.proofs.print.show.Statement.{statement}
 use Rattle.text.proofs.print.show.Tie as tie
 

@@ -1,0 +1,55 @@
+-- A number in decimal: how many digits it has, and how they are written. Assumes nothing.
+use Prim.Native.Nat.{ℕ, zero, suc, _+_, _-_, _/_, _%_, _≤_, _<_}
+use mathlib.Core.Path.{_≡_, refl, _∙_}
+use mathlib.Core.Bool.{Bool, true, false, cond}
+use mathlib.Core.Logic.{inr}
+use mathlib.Core.List.{List, [], _∷_}
+use native.Mathlib.Omega.{arith}
+use lib.Dec.{ltb}
+use lib.ListN.{length, set, length-append}
+use Rattle.octets.specs.Parts.{put}
+use Rattle.octets.proofs.Puts.{put-append, put-comm, put-one}
+use Rattle.digits.specs.Digits.{lastDigits, placesOf, decimalOf}
+
+-- no leading zeros: 0, 9, 10, 255, 65535
+pub samples : (decimalOf 0 ≡ (0x30 ∷ [])) × (decimalOf 9 ≡ (0x39 ∷ [])) × (decimalOf 10 ≡ (0x31 ∷ 0x30 ∷ [])) × (decimalOf 255 ≡ (0x32 ∷ 0x35 ∷ 0x35 ∷ []))
+    × (decimalOf 65535 ≡ (0x36 ∷ 0x35 ∷ 0x35 ∷ 0x33 ∷ 0x35 ∷ []))
+unfolding decimalOf placesOf lastDigits
+samples = (refl, refl, refl, refl, refl)
+
+pub places-most : (n : ℕ) → placesOf n ≤ 5
+unfolding placesOf
+places-most n = one (ltb n 10) (ltb n 100) (ltb n 1000) (ltb n 10000)
+  where
+    one : (a b c d : Bool) → cond a 1 (cond b 2 (cond c 3 (cond d 4 5))) ≤ 5
+    one true b c d = omega arith
+    one false true c d = omega arith
+    one false false true d = omega arith
+    one false false false true = omega arith
+    one false false false false = omega arith
+
+last-length : (k n : ℕ) → length (lastDigits k n) ≡ k
+unfolding lastDigits
+last-length zero n = refl
+last-length (suc k) n = omega (arith, length-append (lastDigits k (n / 10)) ((0x30 + n % 10) ∷ []), last-length k (n / 10))
+
+pub decimal-length : (n : ℕ) → length (decimalOf n) ≡ placesOf n
+unfolding decimalOf
+decimal-length n = last-length (placesOf n) n
+
+-- ---- as a loop writes them, the last first
+
+pub last-none : (at i n : ℕ) (out : List ℕ) → i ≡ 0 → put at (lastDigits i n) out ≡ out
+unfolding put lastDigits
+last-none at zero n out h = refl
+last-none at (suc i) n out h = absurd (omega arith)
+
+pub last-more : (at i n : ℕ) (out : List ℕ) → 0 < i → put at (lastDigits i n) out ≡ put at (lastDigits (i - 1) (n / 10)) (set out (at + (i - 1)) (0x30 + n % 10))
+unfolding lastDigits
+last-more at zero n out h = absurd (omega arith)
+last-more at (suc i) n out h =
+    let front = lastDigits i (n / 10) in
+    let back = (0x30 + n % 10) ∷ [] in
+    let l : length front ≡ i = last-length i (n / 10) in
+    let less : suc i - 1 ≡ i = omega arith in
+    put-append at front back out ∙ put-comm (at + length front) back at front out (inr (omega arith)) ∙ rw (put-one, l, less)
