@@ -5,6 +5,7 @@ use mathlib.Core.Bool.{Bool, true, false, cond}
 use mathlib.Core.Logic.{inr}
 use mathlib.Core.List.{List, [], _∷_}
 use native.Mathlib.Omega.{arith}
+use borrow.Author.Tests.{lt-ltb, le-ltb}
 use lib.Dec.{ltb}
 use lib.ListN.{length, set, length-append}
 use Rattle.octets.specs.Parts.{put}
@@ -16,6 +17,29 @@ pub samples : (decimalOf 0 ≡ (0x30 ∷ [])) × (decimalOf 9 ≡ (0x39 ∷ []))
     × (decimalOf 65535 ≡ (0x36 ∷ 0x35 ∷ 0x35 ∷ 0x33 ∷ 0x35 ∷ []))
 unfolding decimalOf placesOf lastDigits
 samples = (refl, refl, refl, refl, refl)
+
+-- ---- how many digits
+
+module _ (n : ℕ) where
+  pub one-place : n < 10 → 1 ≡ placesOf n
+  unfolding placesOf
+  one-place h = rw (lt-ltb n 10 h)
+
+  pub two-places : 10 ≤ n → n < 100 → 2 ≡ placesOf n
+  unfolding placesOf
+  two-places l h = rw (le-ltb n 10 l, lt-ltb n 100 h)
+
+  pub three-places : 100 ≤ n → n < 1000 → 3 ≡ placesOf n
+  unfolding placesOf
+  three-places l h = rw (le-ltb n 10 (omega arith), le-ltb n 100 l, lt-ltb n 1000 h)
+
+  pub four-places : 1000 ≤ n → n < 10000 → 4 ≡ placesOf n
+  unfolding placesOf
+  four-places l h = rw (le-ltb n 10 (omega arith), le-ltb n 100 (omega arith), le-ltb n 1000 l, lt-ltb n 10000 h)
+
+  pub five-places : 10000 ≤ n → 5 ≡ placesOf n
+  unfolding placesOf
+  five-places l = rw (le-ltb n 10 (omega arith), le-ltb n 100 (omega arith), le-ltb n 1000 (omega arith), le-ltb n 10000 l)
 
 pub places-most : (n : ℕ) → placesOf n ≤ 5
 unfolding placesOf
