@@ -28,6 +28,10 @@ octetOf n = cond (ltb n 256) n 0
 unfoldable pub kindNamed : ℕ → Kind
 kindNamed kind = cond (eqb kind 0) Standard Advanced
 
+-- what is no request is read as one whose value its field can't hold: the maker refuses it with 6, the reader with 8
+abbrev pub noAsk : Ask
+noAsk = Ask.Baud 256
+
 -- what a command asks with three numbers: CFG-ADR, password or k is the first; hour, minute, milliseconds
 abbrev pub rowAsk : RowCommand → ℕ → ℕ → ℕ → Ask
 rowAsk Baud a b c = Ask.Baud a
@@ -50,10 +54,6 @@ tableAsk ClearRecords a = Ask.ClearRecords
 abbrev pub askWith : Command → ℕ → ℕ → ℕ → Ask
 askWith (OnRow x) a b c = rowAsk x a b c
 askWith (OnTable x) a b c = tableAsk x a
-
--- what is no request is read as one whose value its field can't hold: the maker refuses it with 6, the reader with 8
-abbrev pub noAsk : Ask
-noAsk = Ask.Baud 256
 
 abbrev pub askOf : Known → ℕ → ℕ → ℕ → Ask
 askOf (Listed t) a b c = askWith (t .command) a b c
