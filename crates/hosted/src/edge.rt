@@ -15,7 +15,7 @@ const MARK: u8 = 0x5A;
 const SIGHTED: [u8; RECORD] = *b"\xE0\x07\x00\x00\x01\x64\x5E\x37\x01\x02\x03\xE8\x01";
 
 // It, and another, as the data of a reply.
-const TWO: [u8; 28] =
+const TWO: [u8; 2 + 2 * RECORD] =
     *b"\x00\x02\xE0\x07\x00\x00\x01\x64\x5E\x37\x01\x02\x03\xE8\x01\xFE\xDC\xBA\x98\x76\x54\x32\x10\x17\x3B\xEA\x5F\xFF";
 
 // Reads a reply to a request: its octets, and then the request.

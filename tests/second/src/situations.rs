@@ -83,7 +83,7 @@ const NOT_READ: [&str; 12] = [
 pub fn not_read_shape(line: &[u8]) -> &'static str {
     let has = |octet| line.contains(&octet);
     match line {
-        _ if line.len() > 1684 => "longer than a frame",
+        _ if line.len() > 2 * LONGEST => "longer than a frame",
         _ if has(b'\r') => "CR",
         _ if has(b' ') => "space",
         _ if line.iter().any(|&octet| octet > 127) => "octet above 127",
