@@ -19,8 +19,9 @@ use Rattle.frame.specs.Judged.{kindOf, judged}
 use Rattle.frame.proofs.Verdict.{long}
 use Rattle.rules.specs.Box.{frame, Step, frameRefusals, unlessRefused, step}
 use Rattle.rules.proofs.Refusals.{small-buffer, judge-refused}
-use Rattle.depot.specs.declared.Answer.{Answer}
-use Rattle.depot.specs.Called.{stepOn, Ended, Called}
+use Rattle.events.specs.declared.Answer.{Answer}
+use Rattle.events.specs.Happened.{Ended}
+use Rattle.depot.specs.Called.{stepOn, Called}
 use Rattle.frame.proofs.Bounds.{longest-fits}
 use Rattle.digits.specs.Digits.{octetsOf}
 use Rattle.digits.proofs.Values.{octets-length}

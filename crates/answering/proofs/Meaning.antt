@@ -13,9 +13,11 @@ use Rattle.frame.specs.Shape.{replyRoom}
 use Rattle.rules.specs.Box.{Box, Event, Answer as RuleAnswer, refused, reply, seen, ok, AtDesk, deskAt, sighted, placed, unlessRefused, sightingRefusals, step}
 use Rattle.store.specs.View.{view}
 use Rattle.store.specs.Sound.{sound}
-use Rattle.depot.specs.declared.Answer.{Answer}
-use Rattle.depot.specs.Called.{Ended, Called}
-use Rattle.depot.proofs.Short.{Short, frame-short}
+use Rattle.events.specs.declared.Answer.{Answer}
+use Rattle.events.specs.Happened.{Ended}
+use Rattle.depot.specs.Called.{Called}
+use Rattle.events.proofs.Short.{Short}
+use Rattle.depot.proofs.Short.{frame-short}
 use Rattle.depot.proofs.Steps.{Left, ended-sound, left-sound}
 use Rattle.text.specs.Listing.{Line, frame, sighting, tick, notRead, printed, Printed}
 use Rattle.text.specs.Whole.{answerLine, Said, answerTo, said}

@@ -14,7 +14,7 @@ use Rattle.octets.specs.Numbers.{number}
 use Rattle.octets.proofs.Tests.{both}
 use Rattle.octets.proofs.Puts.{put-whole}
 use Rattle.rules.specs.Box.{Event}
-use Rattle.depot.specs.declared.Answer.{Answer}
+use Rattle.events.specs.declared.Answer.{Answer}
 use Rattle.depot.specs.Called.{Called}
 use Rattle.digits.specs.Digits.{decimal, isHex, octetsOf}
 use Rattle.text.specs.Listing.{tick, notRead, isTick, isSighting, sightingOf, otherLine, Printed, printed}

@@ -5,7 +5,7 @@ use mathlib.Core.List.{List, []}
 use lib.ListN.{length}
 use Rattle.octets.specs.Parts.{put}
 use Rattle.rules.specs.Box.{Event}
-use Rattle.depot.specs.declared.Answer.{Answer}
+use Rattle.events.specs.declared.Answer.{Answer}
 use Rattle.depot.proofs.Once.{AsOne, kept-once, once-as-one}
 use Rattle.text.specs.Listing.{Line, frame, sighting, tick, notRead, printed, Printed}
 use Rattle.answering.specs.Answered.{Answered}

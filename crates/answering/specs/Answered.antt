@@ -4,7 +4,7 @@ use mathlib.Core.Path.{_≡_}
 use mathlib.Core.List.{List, []}
 use lib.ListN.{length}
 use Rattle.rules.specs.Box.{Event}
-use Rattle.depot.specs.declared.Answer.{Answer}
+use Rattle.events.specs.declared.Answer.{Answer}
 use Rattle.depot.specs.Called.{Called}
 use Rattle.text.specs.Listing.{Line, frame, sighting, tick, notRead, notReadLine, printed, Printed}
 

@@ -24,9 +24,10 @@ use Rattle.rules.specs.declared.Seen.the-variants.{Ignored, Lost, Recorded}
 use Rattle.rules.specs.declared.Written.{Written}
 use Rattle.rules.specs.Box.{frame, sighting, tick}
 use Rattle.rules.specs.Output.{Wrote}
-use Rattle.depot.specs.declared.Answer.{Answer}
+use Rattle.events.specs.declared.Answer.{Answer}
 use Rattle.depot.specs.Called.{Called, testRefusals, TestedOf, Tested, freshRefusals, MadeOf, Made}
-use Rattle.depot.proofs.Short.{Short, frame-short, sighting-short, tick-short}
+use Rattle.events.proofs.Short.{Short}
+use Rattle.depot.proofs.Short.{frame-short, sighting-short, tick-short}
 use Rattle.requests.specs.declared.Request.{Request}
 use Rattle.reader.specs.declared.Told.{Told}
 use Rattle.requests.specs.Request.{requestFrame}

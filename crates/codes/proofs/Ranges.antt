@@ -16,8 +16,8 @@ use Rattle.frame.specs.declared.Refusal.the-variants.{Unsound, SmallBuffer, Wro
 use Rattle.frame.specs.Refusal.{numberOf}
 use Rattle.frame.specs.Finding.{Finding}
 use Rattle.rules.specs.declared.Seen.the-variants.{Ignored, Lost, Recorded}
-use Rattle.depot.specs.declared.Answer.{Answer}
-use Rattle.depot.proofs.Short.{Short}
+use Rattle.events.specs.declared.Answer.{Answer}
+use Rattle.events.proofs.Short.{Short}
 use Rattle.rules.specs.declared.Written.{Written}
 use Rattle.reader.specs.declared.Told.{Told}
 use Rattle.codes.specs.Codes.{Range, In, done, refused, sighted, ignored, told, written, rangeCount, rangeAt, codeOf, writtenCode, readCode}

@@ -1,5 +1,5 @@
 // The number of an answer: each kind of answer has a range of numbers of its own.
-use depot::Answer;
+use events::Answer;
 use reader::Reading;
 use rules::Seen;
 use rules::Written;

@@ -22,8 +22,8 @@ use Rattle.store.specs.Layout.{storeSize}
 use Rattle.fresh.specs.Fresh.{freshStore}
 use Rattle.store.specs.View.{view}
 use Rattle.store.specs.Sound.{sound}
-use Rattle.depot.specs.declared.Answer.{Answer}
-use Rattle.depot.specs.declared.Answer.the-variants.{Refused, Done}
+use Rattle.events.specs.declared.Answer.{Answer}
+use Rattle.events.specs.declared.Answer.the-variants.{Refused, Done}
 use Rattle.depot.specs.Called.{Called, testRefusals, TestedOf, Tested, freshRefusals, MadeOf, Made}
 use Rattle.requests.specs.declared.Request.{Request}
 use Rattle.maker.specs.Maker.{Requested}

@@ -28,8 +28,9 @@ use Rattle.store.specs.Sound.{sound}
 use Rattle.store.specs.View.{view}
 use Rattle.views.proofs.LegalView.{desk-of-view}
 use Rattle.views.proofs.EveryBox.{Said, every-box}
-use Rattle.depot.specs.declared.Answer.{Answer}
-use Rattle.depot.specs.Called.{Called, Ended, stepOn}
+use Rattle.events.specs.declared.Answer.{Answer}
+use Rattle.events.specs.Happened.{Ended}
+use Rattle.depot.specs.Called.{Called, stepOn}
 use Rattle.depot.proofs.Short.{answer-brief}
 use Rattle.requests.specs.declared.Request.{Request}
 use Rattle.requests.specs.Request.{controlOf, dataFor, fieldsHold, denied, inRange, requestFrame}

@@ -20,7 +20,7 @@ use Rattle.rules.proofs.Facts.{BoxLegal, Fitting, fitting-facts}
 use Rattle.rules.proofs.Legality.{fresh-facts, desk-in-box, step-facts}
 use Rattle.rules.proofs.Isolation.{isolation}
 use Rattle.store.specs.View.{view}
-use Rattle.depot.specs.declared.Answer.{Answer}
+use Rattle.events.specs.declared.Answer.{Answer}
 use Rattle.depot.proofs.Short.{Brief, served-brief}
 use Rattle.demands.specs.History.{Call, eventOf, lentTo, Deed, eventsOf, History}
 use Rattle.demands.specs.History as calls

@@ -13,9 +13,10 @@ use Rattle.frame.proofs.Numbers.{refuses-number}
 use Rattle.rules.specs.Box.{Box, deskAt, Event, frame, sighting, tick, Answer as RuleAnswer, refused, reply, seen, ok, Step, request, served, sighted, placed, unlessRefused, frameRefusals, sightingRefusals, step}
 use Rattle.store.specs.View.{view}
 use Rattle.store.specs.Sound.{sound}
-use Rattle.depot.specs.declared.Answer.{Answer}
-use Rattle.depot.specs.declared.Answer.the-variants.{Refused}
-use Rattle.depot.specs.Called.{stepOn, Ended, Called, testRefusals}
+use Rattle.events.specs.declared.Answer.{Answer}
+use Rattle.events.specs.declared.Answer.the-variants.{Refused}
+use Rattle.events.specs.Happened.{Ended}
+use Rattle.depot.specs.Called.{stepOn, Called, testRefusals}
 use Rattle.demands.specs.Answers.{heard, refusalsOf, testsOf, ofItsKind}
 
 -- ---- a refused call: the rules refuse with that number, and it writes nothing

@@ -7,7 +7,8 @@ use mathlib.Core.List.{List, [], _∷_}
 use Rattle.rules.specs.Box.{Box, freshBox, Answer as RuleAnswer, refused, reply, seen, ok, Step, step, run, after}
 use Rattle.store.specs.View.{view}
 use Rattle.store.specs.Sound.{sound}
-use Rattle.depot.specs.Called.{Ended, Called}
+use Rattle.events.specs.Happened.{Ended}
+use Rattle.depot.specs.Called.{Called}
 use Rattle.depot.proofs.Steps.{Left, ended-sound, left-sound, fresh-left}
 use Rattle.demands.specs.History.{eventOf, lentTo, Deed, eventsOf, Ran, History}
 use Rattle.demands.specs.Answers.{Gave, GaveAll}

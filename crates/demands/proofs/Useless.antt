@@ -22,8 +22,8 @@ use Rattle.rules.specs.Command.{rowTests, tableTests, result, rowEffect, tableE
 use Rattle.rules.specs.Records.{goes, counted}
 use Rattle.rules.specs.Events.{concerns, answersOf}
 use Rattle.rules.proofs.Computed.{computed}
-use Rattle.depot.specs.declared.Answer.{Answer}
-use Rattle.depot.specs.declared.Answer.the-variants.{Refused, Sighted}
+use Rattle.events.specs.declared.Answer.{Answer}
+use Rattle.events.specs.declared.Answer.the-variants.{Refused, Sighted}
 use Rattle.requests.proofs.Values.{two-back}
 use Rattle.demands.specs.History.{Call, frame, sighting, tick, Deed, eventsOf, History}
 use Rattle.demands.specs.Answers.{heard, heardBy}

@@ -8,8 +8,8 @@ use Rattle.octets.specs.Parts.{put}
 use Rattle.frame.specs.Refusal.{numberOf, Refuses}
 use Rattle.rules.specs.Box.{Event, frame, sighting, tick, Answer as RuleAnswer, refused, reply, seen, ok, frameRefusals, sightingRefusals}
 use Rattle.rules.specs.Events.{concerns}
-use Rattle.depot.specs.declared.Answer.{Answer}
-use Rattle.depot.specs.declared.Answer.the-variants.{Refused, Reply, Sighted, Done}
+use Rattle.events.specs.declared.Answer.{Answer}
+use Rattle.events.specs.declared.Answer.the-variants.{Refused, Reply, Sighted, Done}
 use Rattle.depot.specs.Called.{testRefusals}
 use Rattle.demands.specs.History.{Deed, eventOf, lentTo}
 

@@ -8,8 +8,8 @@ use lib.ListN.{length}
 use Rattle.octets.specs.Tests.{allOf}
 use Rattle.rules.specs.Box.{Event}
 use Rattle.rules.specs.Legal.{fitting}
-use Rattle.depot.specs.declared.Answer.{Answer}
-use Rattle.depot.specs.declared.Answer.the-variants.{Done}
+use Rattle.events.specs.declared.Answer.{Answer}
+use Rattle.events.specs.declared.Answer.the-variants.{Done}
 use Rattle.depot.specs.Called.{Called, Made}
 
 -- what a caller hands over: a frame's octets and an output; a desk, a UID and a mask; nothing

@@ -4,8 +4,9 @@ use mathlib.Core.List.{List}
 use Rattle.rules.specs.Box.{Box, Event, Answer as RuleAnswer, refused, reply, seen, ok}
 use Rattle.store.specs.Untouched.{Untouched}
 use Rattle.store.proofs.Untouched.{untouched-same}
-use Rattle.depot.specs.declared.Answer.{Answer}
-use Rattle.depot.specs.Called.{stepOn, Ended, Called}
+use Rattle.events.specs.declared.Answer.{Answer}
+use Rattle.events.specs.Happened.{Ended}
+use Rattle.depot.specs.Called.{stepOn, Called}
 
 ended-alone : (t : RuleAnswer) (box : Box) (s out : List ℕ) (a : Answer) (s′ out′ : List ℕ) → Ended t box s out a s′ out′ → Untouched s s′
 ended-alone (refused r) box s out a s′ out′ e = rw (e .1 .0) (untouched-same s)

@@ -8,9 +8,10 @@ use Rattle.store.specs.View.{view}
 use Rattle.frame.proofs.Numbers.{refuses-once}
 use Rattle.octets.specs.Tests.{first}
 use Rattle.store.specs.Sound.{sound}
-use Rattle.depot.specs.declared.Answer.{Answer}
-use Rattle.depot.specs.declared.Answer.the-variants.{Refused}
-use Rattle.depot.specs.Called.{stepOn, Next, Ended, Called, testRefusals, TestedOf, Tested, freshRefusals, MadeOf, Made}
+use Rattle.events.specs.declared.Answer.{Answer}
+use Rattle.events.specs.declared.Answer.the-variants.{Refused}
+use Rattle.events.specs.Happened.{Next, Ended}
+use Rattle.depot.specs.Called.{stepOn, Called, testRefusals, TestedOf, Tested, freshRefusals, MadeOf, Made}
 
 -- two stores that say the same: both are sound or neither is, and they say one box
 pub record AsOne (s u : List ℕ) : Type 0 where

@@ -22,15 +22,10 @@ use Rattle.rules.proofs.Replies.{obey-carried}
 use Rattle.store.specs.Sound.{sound}
 use Rattle.store.specs.View.{view}
 use Rattle.views.proofs.LegalView.{desk-of-view}
-use Rattle.depot.specs.declared.Answer.{Answer}
-use Rattle.depot.specs.declared.Answer.the-variants.{Refused, Reply, Sighted, Done}
-use Rattle.depot.specs.Called.{Called, Ended, stepOn}
-
-abbrev pub Short : Answer → Type 0
-Short (Refused r) = Unit {0}
-Short (Reply n) = n ≤ replyRoom
-Short (Sighted w) = Unit {0}
-Short Done = Unit {0}
+use Rattle.events.specs.declared.Answer.{Answer}
+use Rattle.events.proofs.Short.{Short}
+use Rattle.events.specs.Happened.{Ended}
+use Rattle.depot.specs.Called.{Called, stepOn}
 
 -- ---- of the rules' answers
 

@@ -11,9 +11,10 @@ use Rattle.store.specs.View.{view}
 use Rattle.store.specs.Sound.{sound}
 use Rattle.fresh.specs.Fresh.{freshStore}
 use Rattle.views.proofs.FreshBox.{fresh-sound, fresh-view}
-use Rattle.depot.specs.declared.Answer.{Answer}
-use Rattle.depot.specs.declared.Answer.the-variants.{Done}
-use Rattle.depot.specs.Called.{stepOn, Next, Ended, Called, freshRefusals, MadeOf, Made}
+use Rattle.events.specs.declared.Answer.{Answer}
+use Rattle.events.specs.declared.Answer.the-variants.{Done}
+use Rattle.events.specs.Happened.{Next, Ended}
+use Rattle.depot.specs.Called.{stepOn, Called, freshRefusals, MadeOf, Made}
 
 -- ---- a refused event changes nothing, in the rules
 

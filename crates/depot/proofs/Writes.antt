@@ -19,8 +19,8 @@ use Rattle.rules.specs.Box.{frame, request, served, placed, unlessRefused, fram
 use Rattle.rules.proofs.WriteCondition.{Turned, write-accepted, write-turned}
 use Rattle.store.specs.View.{view}
 use Rattle.store.specs.Sound.{sound}
-use Rattle.depot.specs.declared.Answer.{Answer}
-use Rattle.depot.specs.declared.Answer.the-variants.{Reply}
+use Rattle.events.specs.declared.Answer.{Answer}
+use Rattle.events.specs.declared.Answer.the-variants.{Reply}
 use Rattle.depot.specs.Called.{stepOn, Called}
 
 module _ (f s out : List ℕ) (a : Answer) (s′ out′ : List ℕ) (called : Called (frame f (length out)) s out a s′ out′) (e : sound s ≡ true)

@@ -3,7 +3,7 @@ use Prim.Native.Nat.{ℕ}
 use mathlib.Core.Path.{_≡_}
 use mathlib.Core.List.{List}
 use Rattle.rules.specs.Box.{Event}
-use Rattle.depot.specs.declared.Answer.{Answer}
+use Rattle.events.specs.declared.Answer.{Answer}
 use Rattle.depot.specs.Called.{Called, Made, Tested}
 use Rattle.codes.specs.Codes.{codeOf}
 

@@ -15,7 +15,7 @@ use Rattle.rules.specs.declared.Seen.the-variants.{Ignored, Lost, Recorded}
 use Rattle.rules.specs.declared.Written.{Written}
 use Rattle.rules.specs.Box.{Event}
 use Rattle.rules.proofs.Output.{wrote-refused}
-use Rattle.depot.specs.declared.Answer.{Answer}
+use Rattle.events.specs.declared.Answer.{Answer}
 use Rattle.depot.specs.Called.{testRefusals, TestedOf, freshRefusals, MadeOf}
 use Rattle.reader.specs.declared.Told.{Told}
 use Rattle.reader.specs.Reader.{readerRefusals, readAs}

@@ -2,7 +2,7 @@
 use crate::read::part;
 use crate::read::request;
 use crate::tell;
-use depot::Answer;
+use events::Answer;
 use reader::Told;
 use requests::Ask;
 use requests::Request;

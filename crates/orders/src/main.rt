@@ -1,6 +1,6 @@
 // One list of events on two sound stores: one made fresh, and the same octets with the areas in another order. A line an event: what
 // the first answers, and whether the second answers the same, octet for octet. `show` says how a line of a script reads.
-use depot::Answer;
+use events::Answer;
 use frame::Advanced;
 use rules::Seen;
 use show::Said;

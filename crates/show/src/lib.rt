@@ -10,7 +10,7 @@
 //     many DESK N                   N sightings, of which those recorded are counted
 //     tick                          100 ms pass
 //     poke AT AT OCTET ..           octets of the store are written
-use depot::Answer;
+use events::Answer;
 use frame::Advanced;
 use frame::Kind;
 use frame::Standard;

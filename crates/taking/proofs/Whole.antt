@@ -12,7 +12,7 @@ use Rattle.frame.specs.Shape.{replyRoom}
 use Rattle.rules.specs.Box.{Box}
 use Rattle.store.specs.View.{view}
 use Rattle.store.specs.Sound.{sound}
-use Rattle.depot.specs.declared.Answer.the-variants.{Done}
+use Rattle.events.specs.declared.Answer.the-variants.{Done}
 use Rattle.depot.specs.Called.{Made}
 use Rattle.depot.proofs.Steps.{fresh-left}
 use Rattle.text.specs.Listing.{lineOf}

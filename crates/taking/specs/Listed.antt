@@ -8,7 +8,7 @@ use lib.ListN.{length, take}
 use Rattle.frame.specs.Shape.{replyRoom}
 use Rattle.store.specs.View.{view}
 use Rattle.store.specs.Sound.{sound}
-use Rattle.depot.specs.declared.Answer.the-variants.{Done}
+use Rattle.events.specs.declared.Answer.the-variants.{Done}
 use Rattle.depot.specs.Called.{Made}
 use Rattle.text.specs.Whole.{linesFrom, printedFrom, listing}
 use Rattle.feeding.specs.Feeding.{Fed, Starts, heldRoom}

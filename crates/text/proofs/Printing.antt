@@ -10,9 +10,9 @@ use Rattle.octets.proofs.Puts.{put-append, put-one}
 use Rattle.rules.specs.Line.{hex}
 use Rattle.digits.proofs.Pairs.{hex-length}
 use Rattle.rules.specs.declared.Seen.the-variants.{Ignored, Lost, Recorded}
-use Rattle.depot.specs.declared.Answer.{Answer}
-use Rattle.depot.specs.declared.Answer.the-variants.{Refused, Reply, Sighted, Done}
-use Rattle.depot.proofs.Short.{Short}
+use Rattle.events.specs.declared.Answer.{Answer}
+use Rattle.events.specs.declared.Answer.the-variants.{Refused, Reply, Sighted, Done}
+use Rattle.events.proofs.Short.{Short}
 use Rattle.frame.specs.Refusal.{numberOf}
 use Rattle.digits.specs.Digits.{placesOf, decimalOf}
 use Rattle.digits.proofs.Decimals.{places-most, decimal-length}

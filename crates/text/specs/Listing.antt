@@ -13,8 +13,8 @@ use Rattle.frame.specs.Refusal.{numberOf}
 use Rattle.rules.specs.declared.Seen.{Seen}
 use Rattle.rules.specs.declared.Seen.the-variants.{Ignored, Lost, Recorded}
 use Rattle.rules.specs.Line.{hex}
-use Rattle.depot.specs.declared.Answer.{Answer}
-use Rattle.depot.specs.declared.Answer.the-variants.{Refused, Reply, Sighted, Done}
+use Rattle.events.specs.declared.Answer.{Answer}
+use Rattle.events.specs.declared.Answer.the-variants.{Refused, Reply, Sighted, Done}
 use Rattle.digits.specs.Digits.{decimal, isHex, octetsOf, decimalOf}
 
 -- ---- what a line says

@@ -1,7 +1,7 @@
 // What is printed for an answer, written at the start of an output that has room for it. Each gives how many octets.
-use depot::Answer;
 use digits::decimal::put_decimal;
 use digits::hex::put_hex;
+use events::Answer;
 use frame::Refusal;
 use octets::least;
 use rules::Seen;

@@ -7,7 +7,7 @@ use Rattle.octets.specs.Tests.{first}
 use Rattle.frame.specs.declared.Refusal.the-variants.{Unsound}
 use Rattle.frame.proofs.Numbers.{refuses}
 use Rattle.store.specs.Layout.{storeSize}
-use Rattle.depot.specs.declared.Answer.the-variants.{Refused}
+use Rattle.events.specs.declared.Answer.the-variants.{Refused}
 use Rattle.depot.specs.Called.{freshRefusals}
 use borrow.Author.Needs.{needs}
 use Rattle.depot.proofs.fresh.Statement.{statement}

@@ -3,7 +3,7 @@ use mathlib.Core.Path.{refl, sym, _∙_}
 use Rattle.octets.specs.Tests.{first}
 use Rattle.frame.specs.declared.Refusal.the-variants.{Unsound}
 use Rattle.frame.proofs.Numbers.{refuses}
-use Rattle.depot.specs.declared.Answer.the-variants.{Refused}
+use Rattle.events.specs.declared.Answer.the-variants.{Refused}
 use Rattle.depot.specs.Called.{testRefusals}
 use borrow.Author.Needs.{needs}
 use Rattle.depot.proofs.test.Statement.{statement}

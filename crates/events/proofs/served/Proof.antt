@@ -1,4 +1,4 @@
--- `depot::served` meets its contract: refusal 5, or the reply of the desk. Assumes nothing.
+-- `events::served` meets its contract: refusal 5, or the reply of the desk. Assumes nothing.
 use Prim.Native.Nat.{_<_}
 use mathlib.Core.Path.{sym, _∙_}
 use lib.ListN.{length}
@@ -6,10 +6,10 @@ use borrow.Author.Tests.{leb-true, leb-false}
 use Rattle.frame.specs.declared.Refusal.the-variants.{NoDesk}
 use Rattle.table.specs.Entries.{desks}
 use Rattle.rules.proofs.Refusals.{no-desk}
-use Rattle.depot.proofs.Calls.{frame-refused, frame-replied}
+use Rattle.events.proofs.Events.{frame-refused, frame-replied}
 use borrow.Author.Needs.{needs}
-use Rattle.depot.proofs.served.Statement.{statement}
-use Rattle.depot.proofs.served.Tie as tie
+use Rattle.events.proofs.served.Statement.{statement}
+use Rattle.events.proofs.served.Tie as tie
 
 low : (c : tie.Else1) → c .before .before .before .before .before .before .args .f .address < desks
 low c = leb-false _ _ (sym (c .before .no-desk .ensures) ∙ c .if1 .left)
@@ -18,7 +18,7 @@ returns : tie.Need-returns
 returns c =
     let z = c .before .before .before .before .before .before in
     let a = z .args in
-    frame-refused (a .frame .now) (length (a .out .now)) NoDesk (a .store .now) (a .out .now) (z .pre .0)
+    frame-refused (a .frame .now) (length (a .out .now)) NoDesk (a .store .now) (a .out .now)
     (no-desk (a .frame .now) (length (a .out .now)) (z .pre .2) (a .f) (z .pre .1) (leb-true _ _ (sym (c .before .no-desk .ensures) ∙ c .if1 .taken)))
 
 reply-requires : tie.Need-reply-requires
@@ -33,7 +33,7 @@ returns-2 c =
     let e = p .before .before .before in
     let z = e .before .before .before .before .before .before in
     let a = z .args in
-    frame-replied (a .frame .now) (a .store .now) _ (a .out .now) _ (a .f) (p .reply .result) (z .pre .0) (z .pre .1) (z .pre .2) (low e) (p .reply .ensures)
+    frame-replied (a .frame .now) (a .store .now) _ (a .out .now) _ (a .f) (p .reply .result) (z .pre .1) (z .pre .2) (low e) (p .reply .ensures)
 
 pub served-spec : {M : Type 1} → statement M
 served-spec =
