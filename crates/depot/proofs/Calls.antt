@@ -16,6 +16,6 @@ pub unsound : (e : Event) (s out : List ℕ) → sound s ≡ false → Called e 
 unfolding stepOn
 unsound e s out q = record { ended = rw q (refuses Refused Unsound, (refl, refl)) }
 
-pub answered : (e : Event) (s out : List ℕ) (a : Answer) (s′ out′ : List ℕ) → sound s ≡ true → Happened e s out a s′ out′ → Called e s out a s′ out′
+pub called : (e : Event) (s out : List ℕ) (a : Answer) (s′ out′ : List ℕ) → sound s ≡ true → Happened e s out a s′ out′ → Called e s out a s′ out′
 unfolding stepOn
-answered e s out a s′ out′ q h = record { ended = rw q (h .ended) }
+called e s out a s′ out′ q h = record { ended = rw q (h .ended) }

@@ -1,6 +1,6 @@
 -- `depot::frame` meets its contract: refusal 1, or what the event did. Assumes nothing.
 use Rattle.octets.proofs.Tests.{passed, failed}
-use Rattle.depot.proofs.Calls.{unsound, answered}
+use Rattle.depot.proofs.Calls.{unsound, called}
 use borrow.Author.Needs.{needs}
 use Rattle.depot.proofs.frame.Statement.{statement}
 use Rattle.depot.proofs.frame.Tie as tie
@@ -9,7 +9,7 @@ returns-2 : tie.Need-returns-2
 returns-2 c =
     let f = c .before .before .before .before in
     let e = f .before .before .before in
-    answered _ _ _ _ _ _ (passed (e .before .fit .ensures) (e .if1 .left)) (f .frame .ensures)
+    called _ _ _ _ _ _ (passed (e .before .fit .ensures) (e .if1 .left)) (f .frame .ensures)
 
 pub frame-spec : {M : Type 1} → statement M
 frame-spec =

@@ -1,6 +1,6 @@
 -- `depot::tick` meets its contract: refusal 1, or what the event did. Assumes nothing.
 use Rattle.octets.proofs.Tests.{passed, failed}
-use Rattle.depot.proofs.Calls.{unsound, answered}
+use Rattle.depot.proofs.Calls.{unsound, called}
 use borrow.Author.Needs.{needs}
 use Rattle.depot.proofs.tick.Statement.{statement}
 use Rattle.depot.proofs.tick.Tie as tie
@@ -9,7 +9,7 @@ returns-2 : tie.Need-returns-2
 returns-2 c =
     let t = c .before .before in
     let e = t .before .before in
-    answered _ _ _ _ _ _ (passed (e .before .fit .ensures) (e .if1 .left)) (t .tick .ensures)
+    called _ _ _ _ _ _ (passed (e .before .fit .ensures) (e .if1 .left)) (t .tick .ensures)
 
 pub tick-spec : {M : Type 1} → statement M
 tick-spec =
