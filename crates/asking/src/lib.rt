@@ -3,7 +3,7 @@ use frame::Kind;
 use requests::Ask;
 use requests::Request;
 use rules::BLOCK;
-use rules::control;
+use ruling::control;
 use rules::control::Command;
 use rules::control::Known;
 use rules::control::RowCommand;

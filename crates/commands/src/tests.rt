@@ -1,8 +1,8 @@
 // A command's own tests: the status of the first that is given, or 0. They read the data alone.
-use rules::adr::block_of;
-use rules::adr::in_eeprom;
-use rules::adr::names_one;
-use rules::adr::names_some;
+use ruling::adr::block_of;
+use ruling::adr::in_eeprom;
+use ruling::adr::names_one;
+use ruling::adr::names_some;
 use rules::control::RowCommand;
 ghost use mathlib.Core.Path.{_≡_};
 ghost use mathlib.Core.Bool.{true, cond, not, _&&_};
@@ -47,7 +47,7 @@ fn unfit(k: usize, body: &[u8]) -> bool
     if k != 7 {
         return false;
     }
-    !rules::shape_legal(body[1], body[2], body[4], body[14])
+    !ruling::shape_legal(body[1], body[2], body[4], body[14])
 }
 
 // 0x81: one block is named, and the bytes are fit for it.

@@ -2,7 +2,7 @@
 use effects::Reply;
 use effects::plain;
 use frame::Kind;
-use rules::control;
+use ruling::control;
 use rules::control::Command;
 use rules::control::Known;
 use rules::control::RowCommand;

@@ -5,7 +5,7 @@ use frame::Judged;
 use frame::Refusal;
 use frame::Way;
 use rules::Seen;
-use rules::no_desk;
+use ruling::no_desk;
 ghost use mathlib.Core.Path.{_≡_};
 ghost use mathlib.Core.Bool.{true};
 ghost use mathlib.Core.List.{[]};

@@ -2,7 +2,7 @@
 use frame::Refusal;
 use rules::BLOCK;
 use rules::Written;
-use rules::records_for;
+use ruling::records_for;
 use timer::Timer;
 use typed::RecordTold;
 use typed::Sighting;

@@ -22,7 +22,7 @@ fn legal(block: &[u8]) -> bool
     requires { ⌜ length (now block) ≡ blockSize ⌝ }
     ensures { λ r. ⌜ r ≡ lineLegal (now (block .entry)) ⌝ }
 {
-    rules::shape_legal(block[0], block[1], block[3], block[13])
+    ruling::shape_legal(block[0], block[1], block[3], block[13])
 }
 
 // Writes the line of one record at the start of what is lent: the part of an output that starts after the last line.

@@ -11,7 +11,7 @@ use requests::range::in_range;
 use requests::terms_of;
 use rules::BLOCK;
 use rules::Written;
-use rules::no_desk;
+use ruling::no_desk;
 use seal::Sealed;
 ghost use mathlib.Core.Path.{_≡_};
 ghost use mathlib.Core.Bool.{true, false};

@@ -5,7 +5,7 @@ use effects::plain;
 use frame::Kind;
 use frame::Way;
 use octets::least;
-use rules::most_sent;
+use ruling::most_sent;
 ghost use mathlib.Core.Path.{_≡_};
 ghost use mathlib.Core.Bool.{true, Bool, cond};
 ghost use Prim.Native.Nat.{_≤_, _<_};
@@ -39,7 +39,7 @@ fn send(s: &mut [u8], d: usize, kind: Kind, wanted: usize, out: &mut [u8]) -> Re
 {
     let n = least(wanted, most_sent(kind));
     let way = Way::Reply;
-    keeping::tell_records(s, d, n, out, way.data_at(kind));
+    holding::tell_records(s, d, n, out, way.data_at(kind));
     let status = status_of(keeping::marks_of(s, d).overflow, n, wanted);
     keeping::act(s, d, Doing::Due(n as u8));
     Reply {
@@ -57,7 +57,7 @@ pub fn read(s: &mut [u8], d: usize, kind: Kind, body: &[u8], out: &mut [u8]) -> 
     if asked == 0 {
         return plain(0x11);
     }
-    let there = keeping::held(s, d);
+    let there = holding::held(s, d);
     if there == 0 {
         return plain(0x92);
     }
@@ -73,7 +73,7 @@ pub fn send_table(s: &[u8], d: usize, kind: Kind, out: &mut [u8]) -> Reply
     let to = way.data_at(kind);
     octets::put16(out, to, table::SHARE);
     octets::put16(out, to + 2, keeping::marks_of(s, d).start as u16);
-    octets::put16(out, to + 4, keeping::held(s, d) as u16);
+    octets::put16(out, to + 4, holding::held(s, d) as u16);
     Reply { status: 0, len: 6 }
 }
 
@@ -85,7 +85,7 @@ pub fn remove(s: &mut [u8], d: usize) -> Reply
     let m = keeping::marks_of(s, d);
     let start = (m.start as u16 + m.due as u16) % table::SHARE;
     keeping::act(s, d, Doing::Close(start as u8));
-    keeping::remove_first(s, d, m.due as usize);
+    holding::remove_first(s, d, m.due as usize);
     plain(0)
 }
 
@@ -95,7 +95,7 @@ fn empty(s: &mut [u8], d: usize, what: Doing) -> Reply
     ensures { λ r. ⌜ Emptied what d r (now (s .entry)) (now (s .exit)) ⌝ }
 {
     keeping::act(s, d, what);
-    keeping::remove_first(s, d, table::SHARE as usize);
+    holding::remove_first(s, d, table::SHARE as usize);
     plain(0)
 }
 

@@ -1,7 +1,7 @@
 // What a host asks of a desk.
 use frame::Kind;
 use rules::BLOCK;
-use rules::control;
+use ruling::control;
 use rules::control::Command;
 use rules::control::RowCommand;
 use rules::control::TableCommand;

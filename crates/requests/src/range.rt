@@ -2,10 +2,10 @@
 use crate::Ask;
 use crate::Request;
 use rules::BLOCK;
-use rules::adr::block_of;
-use rules::adr::in_eeprom;
-use rules::adr::names_one;
-use rules::adr::names_some;
+use ruling::adr::block_of;
+use ruling::adr::in_eeprom;
+use ruling::adr::names_one;
+use ruling::adr::names_some;
 use timer::Timer;
 ghost use mathlib.Core.Path.{_≡_};
 ghost use mathlib.Core.Bool.{true, not, _&&_, _||_};
@@ -68,7 +68,7 @@ fn write_denied(adr: u8, bytes: [u8; BLOCK]) -> bool
     if block_of(adr) != 7 {
         return false;
     }
-    !rules::shape_legal(bytes[0], bytes[1], bytes[3], bytes[13])
+    !ruling::shape_legal(bytes[0], bytes[1], bytes[3], bytes[13])
 }
 
 // Whether a logged-in desk would answer 0x11.

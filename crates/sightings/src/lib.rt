@@ -32,12 +32,12 @@ fn unlocked(s: &mut [u8], d: usize, uid: u64, mask: u8) -> Seen
     requires { ⌜ (sound (now s) ≡ true) × (d < desks) × (locked uid (kept d (now s) .locks) ≡ false) ⌝ }
     ensures { λ r. ⌜ Sighted d uid mask r (now (s .entry)) (now (s .exit)) ⌝ }
 {
-    if table::SHARE as usize <= keeping::held(s, d) {
+    if table::SHARE as usize <= holding::held(s, d) {
         keeping::act(s, d, Doing::Mark);
         return Seen::Lost;
     }
     let t = keeping::timer_of(s, d);
-    keeping::add_record(s, d, record_of(uid, t, mask));
+    holding::add_record(s, d, record_of(uid, t, mask));
     keeping::act(s, d, Doing::Lock(uid));
     Seen::Recorded
 }

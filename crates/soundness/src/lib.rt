@@ -129,7 +129,7 @@ fn memory_right(row: &[u8], at: usize) -> bool
     requires { ⌜ at + memorySize ≤ length (now row) ⌝ }
     ensures { λ r. ⌜ r ≡ memoryLegal (part at memorySize (now (row .entry))) ⌝ }
 {
-    rules::shape_legal(
+    ruling::shape_legal(
         row[at + DB_USE],
         row[at + SEP_CHAR],
         row[at + END_CHAR],

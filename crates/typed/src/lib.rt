@@ -1,7 +1,7 @@
 // What the data of a reply say, for those who want it typed. Data that a reply to that command does not carry are refused.
 use frame::Refusal;
 use rules::BLOCK;
-use rules::records_for;
+use ruling::records_for;
 use table::RECORD;
 use table::SHARE;
 use timer::Timer;
