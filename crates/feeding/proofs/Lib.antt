@@ -1,2 +1,2 @@
 pub mod Feeding
-pub mod Whole
+pub mod Held

@@ -1,5 +1,5 @@
--- A line that is read octet by octet in bounded memory: what is held of it, and that this is enough. Assumes nothing.
-use Prim.Native.Nat.{ℕ, _+_, _*_, _≤_, min}
+-- A line that is read octet by octet in bounded memory: what is held of it, and what that says. Assumes nothing.
+use Prim.Native.Nat.{ℕ, _+_, _*_, min}
 use mathlib.Core.Path.{_≡_}
 use mathlib.Core.Bool.{true, false, cond, not, _||_}
 use mathlib.Core.List.{List, [], _∷_, _++_}
@@ -9,8 +9,7 @@ use Rattle.octets.specs.Tests.{allOf}
 use Rattle.frame.specs.Shape.{replyRoom}
 use Rattle.feeding.specs.declared.Begun.{Begun}
 use Rattle.digits.specs.Digits.{isHex, octetsOf}
-use Rattle.text.specs.Listing.{Line, frame, notRead, odd, otherLine, lineOf}
-use Rattle.answering.specs.Answered.{Answered}
+use Rattle.text.specs.Listing.{Line, frame, notRead, odd, otherLine}
 
 -- the first octets of a text are held, as many as there is room for; of all of them is known whether they are more, whether their
 -- number is odd, and whether one is no hex digit
@@ -55,8 +54,3 @@ readOff at held =
 -- so many octets of a line are enough, however long it is: the digits of a frame that is longer than any may be
 abbrev pub heldRoom : ℕ
 heldRoom = 2 * (replyRoom + 1)
-
--- what was read is answered; and where a text was fed into a buffer that has so many octets, its line is answered, however long it is
-pub record ReadOff (at : Begun) (held s reply out : List ℕ) (n : ℕ) (s′ reply′ out′ : List ℕ) : Type 0 where
-  pub read : Answered (readOff at held) s reply out n s′ reply′ out′
-  pub whole : (text : List ℕ) → Fed text at held → heldRoom ≤ length held → Answered (lineOf text) s reply out n s′ reply′ out′

@@ -1,17 +1,10 @@
-// The listing's lines: a line is fed octet by octet, however long it is, and then answered by the box.
-use answering::framed;
-use answering::other;
+// The listing's lines: a line is fed octet by octet, however long it is.
 use digits::read::is_hex;
 use frame::Advanced;
-use octets::least;
-use text::print::not_read;
 ghost use mathlib.Core.Path.{_≡_};
 ghost use mathlib.Core.Bool.{not, _||_};
-ghost use Prim.Native.Nat.{_≤_};
-ghost use lib.ListN.{length};
 ghost use Rattle.digits.specs.Digits.{isHex};
-ghost use Rattle.text.specs.Listing.{longestLine};
-ghost use Rattle.feeding.specs.Feeding.{Starts, Feeds, ReadOff};
+ghost use Rattle.feeding.specs.Feeding.{Starts, Feeds};
 
 // So many octets of a line are enough, however long it is.
 pub const HELD: usize = 2 * (Advanced::LONGEST + 1);
@@ -69,28 +62,4 @@ pub fn feed(state: Begun, held: &mut [u8], c: u8) -> Begun
         odd,
         bad,
     }
-}
-
-// Answers the line that was fed: the box is called, and what is to be printed stands at the start of the output.
-pub fn answer(
-    state: Begun,
-    held: &[u8],
-    store: &mut [u8],
-    reply: &mut [u8],
-    out: &mut [u8],
-) -> usize
-    requires { ⌜ longestLine ≤ length (now out) ⌝ }
-    ensures { λ r. ⌜ ReadOff state (now (held .entry)) (now (store .entry)) (now (reply .entry)) (now (out .entry)) r (now (store .exit)) (now (reply .exit)) (now (out .exit)) ⌝ }
-{
-    let n = least(state.held, held.len());
-    if state.bad {
-        if state.over {
-            return not_read(out);
-        }
-        return other(&held[..n], store, reply, out);
-    }
-    if state.odd {
-        return not_read(out);
-    }
-    framed(&held[..n], store, reply, out)
 }

@@ -10,9 +10,10 @@ use lib.Dec.{eqb, leb}
 use lib.ListN.{length, take, drop, length-take, length-drop}
 use Rattle.octets.proofs.Puts.{put-length}
 use Rattle.text.specs.Listing.{longestLine}
-use Rattle.answering.proofs.Room.{answered-text}
 use Rattle.feeding.specs.declared.Begun.{Begun}
-use Rattle.feeding.specs.Feeding.{readOff, ReadOff}
+use Rattle.feeding.specs.Feeding.{readOff}
+use Rattle.answering.specs.Answered.{ReadOff}
+use Rattle.answering.proofs.Room.{answered-text}
 use Rattle.turning.specs.Turning.{State, Takes, Ends}
 use Rattle.taking.specs.Taking.{roomy, Took, TookPart, Finished}
 use Rattle.turning.proofs.Turns.{takes-within}

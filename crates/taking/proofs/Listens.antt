@@ -16,10 +16,10 @@ use Rattle.store.specs.View.{view}
 use Rattle.store.specs.Sound.{sound}
 use Rattle.text.specs.Listing.{longestLine, lineOf}
 use Rattle.text.specs.Whole.{lf, linesFrom, said, printedFrom, listing}
-use Rattle.answering.proofs.Meaning.{Means, answered-means}
 use Rattle.feeding.specs.declared.Begun.{Begun}
 use Rattle.feeding.specs.Feeding.{Fed}
 use Rattle.feeding.proofs.Feeding.{fed-none}
+use Rattle.answering.proofs.Meaning.{Means, answered-means}
 use Rattle.turning.specs.Turning.{State, LineEnds, LineGoesOn, Takes}
 use Rattle.taking.specs.Taking.{roomy, Took}
 use Rattle.taking.specs.Listed.{waits, Listening}

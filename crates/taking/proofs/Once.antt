@@ -10,9 +10,10 @@ use Rattle.octets.specs.Parts.{put}
 use Rattle.text.specs.Listing.{longestLine}
 use Rattle.text.specs.Whole.{lf}
 use Rattle.depot.proofs.Once.{AsOne, kept-once}
-use Rattle.answering.proofs.Once.{Same as Printing, answered-once}
 use Rattle.feeding.specs.declared.Begun.{Begun}
-use Rattle.feeding.specs.Feeding.{readOff, ReadOff}
+use Rattle.feeding.specs.Feeding.{readOff}
+use Rattle.answering.specs.Answered.{ReadOff}
+use Rattle.answering.proofs.Once.{Same as Printing, answered-once}
 use Rattle.turning.specs.Turning.{State, lent, LineEnds, LineGoesOn, Takes, Ends}
 use Rattle.taking.specs.Taking.{roomy, Took, TookPart, Finished}
 

@@ -17,9 +17,10 @@ use Rattle.depot.specs.Called.{Made}
 use Rattle.depot.proofs.Steps.{fresh-left}
 use Rattle.text.specs.Listing.{lineOf}
 use Rattle.text.specs.Whole.{lastLine, linesFrom, said, printedFrom, listing}
-use Rattle.answering.proofs.Meaning.{Means, answered-means}
 use Rattle.feeding.specs.declared.Begun.{Begun}
-use Rattle.feeding.specs.Feeding.{Fed, Starts, heldRoom, ReadOff}
+use Rattle.feeding.specs.Feeding.{Fed, Starts, heldRoom}
+use Rattle.answering.specs.Answered.{ReadOff}
+use Rattle.answering.proofs.Meaning.{Means, answered-means}
 use Rattle.turning.specs.Turning.{State, Ends}
 use Rattle.taking.specs.Taking.{Sized, Finished}
 use Rattle.taking.specs.Listed.{waits, Listening, anew, Turn, Ran, heard, sent, Listed}

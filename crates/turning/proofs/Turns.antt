@@ -12,9 +12,10 @@ use Rattle.octets.proofs.Lent.{put-mid}
 use Rattle.text.specs.Listing.{longestLine}
 use Rattle.text.specs.Whole.{lf}
 use Rattle.digits.proofs.Values.{rest-of}
-use Rattle.answering.proofs.Room.{answered-text}
 use Rattle.feeding.specs.declared.Begun.{Begun}
-use Rattle.feeding.specs.Feeding.{noneFed, Feeds, readOff, ReadOff}
+use Rattle.feeding.specs.Feeding.{noneFed, Feeds, readOff}
+use Rattle.answering.specs.Answered.{ReadOff}
+use Rattle.answering.proofs.Room.{answered-text}
 use Rattle.turning.specs.Turning.{State, lent, LineEnds, LineGoesOn, Takes, Ends}
 
 -- ---- an octet, as the code takes it

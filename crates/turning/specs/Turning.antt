@@ -8,7 +8,8 @@ use lib.Dec.{eqb}
 use Rattle.octets.specs.Parts.{put}
 use Rattle.text.specs.Whole.{lf}
 use Rattle.feeding.specs.declared.Begun.{Begun}
-use Rattle.feeding.specs.Feeding.{noneFed, Feeds, ReadOff}
+use Rattle.feeding.specs.Feeding.{noneFed, Feeds}
+use Rattle.answering.specs.Answered.{ReadOff}
 
 -- what a call carries and what it is lent: the line that is begun and how many octets are written to the output; the octets held of
 -- the line, store, reply buffer and output

@@ -1,6 +1,6 @@
 // One octet of the listing's input: it goes on with a line, or is the LF that ends it; and a last line without LF.
+use answering::answer;
 use feeding::Begun;
-use feeding::answer;
 use feeding::feed;
 use feeding::start;
 ghost use mathlib.Core.Path.{_≡_};

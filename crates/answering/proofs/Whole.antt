@@ -7,38 +7,18 @@ use native.Mathlib.Decide.{decLt}
 use native.Mathlib.Omega.{arith}
 use borrow.Author.Tests.{lt-ltb, le-ltb}
 use lib.ListN.{length, take}
-use lib.Seq.{length-take-le, take-all}
+use lib.Seq.{length-take-le}
 use Rattle.octets.specs.Tests.{allOf}
 use Rattle.frame.specs.Shape.{replyRoom}
 use Rattle.feeding.specs.declared.Begun.{Begun}
 use Rattle.digits.specs.Digits.{isHex, octetsOf}
 use Rattle.text.specs.Listing.{Line, frame, notRead, odd, otherLine, lineOf}
-use Rattle.answering.specs.Answered.{Answered}
-use Rattle.feeding.specs.Feeding.{Fed, readOff, ReadOff, heldRoom}
+use Rattle.feeding.specs.Feeding.{Fed, readOff, heldRoom}
+use Rattle.answering.specs.Answered.{Answered, ReadOff}
 use Rattle.digits.proofs.Values.{octets-length}
+use Rattle.feeding.proofs.Held.{reads-long, reads-other, reads-odd, reads-frame, all-held}
 use Rattle.answering.proofs.Long.{long-called}
 use Rattle.answering.proofs.NoHex.{long-other}
-
--- ---- the line that is read off, as the code finds out
-
-module _ (at : Begun) (held : List ℕ) where
-  module _ (bad : at .bad ≡ true) where
-    pub reads-long : at .over ≡ true → readOff at held ≡ notRead
-    unfolding readOff
-    reads-long e = rw (bad, e)
-
-    pub reads-other : at .over ≡ false → readOff at held ≡ otherLine (take (at .held) held)
-    unfolding readOff
-    reads-other e = rw (bad, e)
-
-  module _ (good : at .bad ≡ false) where
-    pub reads-odd : at .odd ≡ true → readOff at held ≡ notRead
-    unfolding readOff
-    reads-odd e = rw (good, e)
-
-    pub reads-frame : at .odd ≡ false → readOff at held ≡ frame (octetsOf (take (at .held) held))
-    unfolding readOff
-    reads-frame e = rw (good, e)
 
 -- ---- the line that a text is
 
@@ -72,10 +52,6 @@ module _ (s reply out : List ℕ) (n : ℕ) (s′ reply′ out′ : List ℕ) wh
       }
 
   module _ (text : List ℕ) (at : Begun) (held : List ℕ) (f : Fed text at held) (room : heldRoom ≤ length held) where
-    -- the whole text is held
-    all-held : length text ≤ length held → take (at .held) held ≡ text
-    all-held h = f .held-is ∙ take-all (length held) text h
-
     frames : Ends (frame (octetsOf (take (at .held) held))) → Ends (frame (octetsOf text))
     frames q =
         elim (decLt (length held) (length text)) [
@@ -84,7 +60,7 @@ module _ (s reply out : List ℕ) (n : ℕ) (s′ reply′ out′ : List ℕ) wh
               long-frames _ _
               (omega (arith, octets-length (take (length held) text), l)) (omega (arith, octets-length text))
               (subst (λ (xs : List ℕ). Ends (frame (octetsOf xs))) (f .held-is) q)
-          | no h ↦ subst (λ (xs : List ℕ). Ends (frame (octetsOf xs))) (all-held (omega arith)) q
+          | no h ↦ subst (λ (xs : List ℕ). Ends (frame (octetsOf xs))) (all-held at held text f (omega arith)) q
         ]
 
     hex-whole : (b : Bool) → odd text ≡ b → allOf isHex text ≡ true → Ends (readOff at held) → Ends (lineOf text)
@@ -99,7 +75,7 @@ module _ (s reply out : List ℕ) (n : ℕ) (s′ reply′ out′ : List ℕ) wh
               (rw (reads-long at held (f .bad-is ∙ ap not p) (f .over-is ∙ lt-ltb _ _ h)) at q)
           | no h ↦
               rw (no-hex text p)
-              (subst (λ (xs : List ℕ). Ends (otherLine xs)) (all-held (omega arith))
+              (subst (λ (xs : List ℕ). Ends (otherLine xs)) (all-held at held text f (omega arith))
               (rw (reads-other at held (f .bad-is ∙ ap not p) (f .over-is ∙ le-ltb (length held) (length text) (omega arith))) at q))
         ]
 
