@@ -2,7 +2,7 @@
 use Prim.Native.Nat.{ℕ, _+_, _-_, _≤_, _<_}
 use mathlib.Core.Path.{_≡_, refl, sym, ap, _∙_}
 use mathlib.Core.Bool.{true, false}
-use mathlib.Core.List.{List, [], _++_}
+use mathlib.Core.List.{List, _++_}
 use native.Mathlib.Nat.{add-zero}
 use native.Mathlib.Omega.{arith}
 use lib.ListN.{length, take, drop}
@@ -26,27 +26,16 @@ use Rattle.table.specs.Entries.{desks}
 use Rattle.rules.specs.declared.control.Terms.{Terms}
 use Rattle.rules.specs.Config.{blockSize}
 use Rattle.rules.specs.Control.{termsOf}
-use Rattle.requests.specs.declared.Ask.{Ask}
 use Rattle.requests.specs.declared.Request.{Request as Asked}
-use Rattle.requests.specs.Request.{commandOf, controlOf, bodyOf, dataFor, requestFrame, inRange}
+use Rattle.requests.specs.Request.{commandOf, controlOf, dataFor, requestFrame, inRange}
 use Rattle.maker.specs.Maker.{makerRefusals, Requested}
-use Rattle.requests.proofs.Asked.{sizeOf, body-size}
+use Rattle.requests.proofs.Asked.{body-size}
 use Rattle.requests.proofs.BoxReads.{request-fits}
 
--- ---- the data, where it is known what is asked
+-- ---- the length of the data
 
 pub size-listed : (q : Asked) (t : Terms) → length (q .bytes) ≡ blockSize → t ≡ termsOf (commandOf (q .ask)) → t .size ≡ length (dataFor q)
 size-listed q t size e = ap (λ (x : Terms). x .size) e ∙ sym (body-size (q .ask) (q .bytes) size)
-
-pub room-as : (a b : Ask) (bytes : List ℕ) (n : ℕ) → length bytes ≡ blockSize → length (bodyOf a bytes) ≤ n → a ≡ b → sizeOf b ≤ n
-room-as a b bytes n size h e = rw (← e, ← body-size a bytes size) h
-
-pub data-as : (a b : Ask) (bytes out : List ℕ) → a ≡ b → put 0 (bodyOf b bytes) out ≡ put 0 (bodyOf a bytes) out
-data-as a b bytes out e = ap (λ (x : Ask). put 0 (bodyOf x bytes) out) (sym e)
-
-pub data-none : (a b : Ask) (bytes out : List ℕ) → a ≡ b → bodyOf b bytes ≡ [] → out ≡ put 0 (bodyOf a bytes) out
-unfolding put
-data-none a b bytes out e h = ap (λ (x : List ℕ). put 0 x out) (sym h) ∙ data-as a b bytes out e
 
 -- ---- refusals
 

@@ -1,11 +1,11 @@
--- `maker::put_timer` meets its contract. Assumes nothing.
+-- `bodies::put_timer` meets its contract. Assumes nothing.
 use mathlib.Core.Path.{_∙_}
 use native.Mathlib.Omega.{arith}
 use lib.ListN.{length-set}
 use Rattle.octets.specs.Parts.{put}
 use borrow.Author.Needs.{needs}
-use Rattle.maker.proofs.put_timer.Statement.{statement}
-use Rattle.maker.proofs.put_timer.Tie as tie
+use Rattle.bodies.proofs.put_timer.Statement.{statement}
+use Rattle.bodies.proofs.put_timer.Tie as tie
 
 slice-write-out-2 : tie.Need-slice-write-out-2
 slice-write-out-2 c = simp length-set (omega (arith, c .before .pre .3))

@@ -1,7 +1,7 @@
--- `maker::put_password` meets its contract. Assumes nothing.
+-- `bodies::put_password` meets its contract. Assumes nothing.
 use borrow.Author.Needs.{needs}
-use Rattle.maker.proofs.put_password.Statement.{statement}
-use Rattle.maker.proofs.put_password.Tie as tie
+use Rattle.bodies.proofs.put_password.Statement.{statement}
+use Rattle.bodies.proofs.put_password.Tie as tie
 
 returns : tie.Need-returns
 returns c = rw (← c .before .before .before .before .before .octets32 .ensures) (c .before .before .copy-to .ensures)

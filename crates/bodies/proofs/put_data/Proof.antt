@@ -1,11 +1,11 @@
--- `maker::put_data` meets its contract. Assumes nothing.
+-- `bodies::put_data` meets its contract. Assumes nothing.
 use mathlib.Core.Path.{refl, _∙_}
-use Rattle.maker.proofs.Making.{room-as, data-as, data-none}
+use Rattle.bodies.proofs.Body.{room-as, data-as, data-none}
 use borrow.Author.Tests.{ltb-true}
 use Rattle.requests.proofs.Values.{holds-as, times}
 use borrow.Author.Needs.{needs}
-use Rattle.maker.proofs.put_data.Statement.{statement}
-use Rattle.maker.proofs.put_data.Tie as tie
+use Rattle.bodies.proofs.put_data.Statement.{statement}
+use Rattle.bodies.proofs.put_data.Tie as tie
 
 put-octet-requires : tie.Need-put-octet-requires
 put-octet-requires c κs = (ltb-true _ _ (holds-as _ _ (c .before .before .before .before .before .pre .0) (c .before .before .ask .given .1)), room-as _ _ _ _ (search needs) (c .before .before .before .before .before .pre .1) (c .before .before .ask .given .1))

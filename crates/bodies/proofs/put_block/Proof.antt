@@ -1,12 +1,12 @@
--- `maker::put_block` meets its contract. Assumes nothing.
+-- `bodies::put_block` meets its contract. Assumes nothing.
 use mathlib.Core.Path.{_≡_, _∙_}
 use native.Mathlib.Omega.{arith}
 use lib.ListN.{length, length-set}
 use Rattle.rules.specs.Config.{blockSize}
 use Rattle.octets.specs.Parts.{put}
 use borrow.Author.Needs.{needs}
-use Rattle.maker.proofs.put_block.Statement.{statement}
-use Rattle.maker.proofs.put_block.Tie as tie
+use Rattle.bodies.proofs.put_block.Statement.{statement}
+use Rattle.bodies.proofs.put_block.Tie as tie
 
 copy-to-requires : tie.Need-copy-to-requires
 copy-to-requires c κs =

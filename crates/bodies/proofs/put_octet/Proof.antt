@@ -1,9 +1,9 @@
--- `maker::put_octet` meets its contract. Assumes nothing.
+-- `bodies::put_octet` meets its contract. Assumes nothing.
 use mathlib.Core.Path.{refl}
 use Rattle.octets.specs.Parts.{put}
 use borrow.Author.Needs.{needs}
-use Rattle.maker.proofs.put_octet.Statement.{statement}
-use Rattle.maker.proofs.put_octet.Tie as tie
+use Rattle.bodies.proofs.put_octet.Statement.{statement}
+use Rattle.bodies.proofs.put_octet.Tie as tie
 
 returns : tie.Need-returns
 unfolding put
