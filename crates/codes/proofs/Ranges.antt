@@ -1,4 +1,4 @@
--- The ranges of the numbers share none of them, end before 2^64, and each answer's number stands in its own. Assumes nothing.
+-- The ranges of the numbers share none of them, end before 2^64, and the numbers of refusals and of lengths stand in theirs. Assumes nothing.
 use Prim.Native.Nat.{ℕ, _+_, _^_, _<_}
 use mathlib.Core.Path.{_≡_, refl}
 use mathlib.Core.Bool.{Bool, true}
@@ -14,14 +14,8 @@ use Rattle.octets.proofs.Every.{every-at}
 use Rattle.frame.specs.declared.Refusal.{Refusal}
 use Rattle.frame.specs.declared.Refusal.the-variants.{Unsound, SmallBuffer, WrongLength, WrongCheck, NoDesk, OutOfRange, NoRoom, NotTheReply}
 use Rattle.frame.specs.Refusal.{numberOf}
-use Rattle.frame.specs.Finding.{Finding}
-use Rattle.rules.specs.declared.Seen.the-variants.{Ignored, Lost, Recorded}
-use Rattle.events.specs.declared.Answer.{Answer}
-use Rattle.events.proofs.Short.{Short}
 use Rattle.rules.specs.declared.Written.{Written}
-use Rattle.reader.specs.declared.Told.{Told}
-use Rattle.codes.specs.Codes.{Range, In, done, refused, sighted, ignored, told, written, rangeCount, rangeAt, codeOf, writtenCode, readCode}
-use Rattle.codes.proofs.Told.{Small}
+use Rattle.codes.specs.Codes.{In, refused, written, rangeCount, rangeAt, writtenCode}
 
 abbrev fromOf : ℕ → ℕ
 fromOf i = rangeAt i .from
@@ -59,7 +53,7 @@ one-range i j n hi hj p q =
     never : (i ≡ j → ⊥) → ⊥
     never ne = ⊎-elim (λ e. omega (arith, p .1, q .0)) (λ e. omega (arith, p .0, q .1)) (clear-apart rangeCount fromOf countOf ranges-clear i j hi hj ne)
 
--- ---- each answer's number stands in the range of its kind
+-- ---- a number stands in the range of its kind; of an answer of the box `answer-in` (depot_c), of the reader `told-in` (host_c)
 
 pub number-in : (r : Refusal) → In refused (numberOf r)
 number-in Unsound = (omega arith, omega arith)
@@ -71,24 +65,5 @@ number-in OutOfRange = (omega arith, omega arith)
 number-in NoRoom = (omega arith, omega arith)
 number-in NotTheReply = (omega arith, omega arith)
 
-abbrev pub rangeOf : Answer → Range
-rangeOf Answer.Done = done
-rangeOf (Answer.Refused r) = refused
-rangeOf (Answer.Sighted Recorded) = sighted
-rangeOf (Answer.Sighted Lost) = sighted
-rangeOf (Answer.Sighted Ignored) = ignored
-rangeOf (Answer.Reply n) = written
-
-pub answer-in : (a : Answer) → Short a → In (rangeOf a) (codeOf a)
-answer-in Answer.Done h = (omega arith, omega arith)
-answer-in (Answer.Refused r) h = number-in r
-answer-in (Answer.Sighted Recorded) h = (omega arith, omega arith)
-answer-in (Answer.Sighted Lost) h = (omega arith, omega arith)
-answer-in (Answer.Sighted Ignored) h = (omega arith, omega arith)
-answer-in (Answer.Reply n) h = (omega arith, omega arith)
-
 pub written-in : (n : ℕ) → n < 2 ^ 63 → In written (writtenCode (Written.Octets n))
 written-in n h = (omega arith, omega arith)
-
-pub told-in : (t : Told) → Small t → In told (readCode (Finding.found t))
-told-in t h = (omega arith, omega (arith, h .status, h .start, h .len))

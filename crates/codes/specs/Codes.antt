@@ -3,14 +3,10 @@ use Prim.Native.Nat.{ℕ, _+_, _*_, _^_, _≤_, _<_}
 use mathlib.Core.List.{List, [], _∷_}
 use lib.ListN.{length, getD}
 use Rattle.frame.specs.Refusal.{numberOf}
-use Rattle.frame.specs.Finding.{Finding, refused as notRead, found as read}
 use Rattle.rules.specs.declared.Seen.{Seen}
 use Rattle.rules.specs.declared.Seen.the-variants.{Ignored, Lost, Recorded}
 use Rattle.rules.specs.declared.Written.{Written}
-use Rattle.rules.specs.declared.Written.the-variants.{Octets, Refused as NotWritten}
-use Rattle.events.specs.declared.Answer.{Answer}
-use Rattle.events.specs.declared.Answer.the-variants.{Refused, Reply, Sighted, Done}
-use Rattle.reader.specs.declared.Told.{Told}
+use Rattle.rules.specs.declared.Written.the-variants.{Octets, Refused}
 
 -- ---- the ranges
 
@@ -85,7 +81,7 @@ rangeCount = length ranges
 abbrev pub rangeAt : ℕ → Range
 rangeAt i = getD ranges i done
 
--- ---- the numbers
+-- ---- the numbers; of an answer of the box `codeOf` (depot_c/specs/Coded.antt), of the reader `readCode` (host_c/specs/Coded.antt)
 
 -- what a sighting came to
 abbrev pub seenCode : Seen → ℕ
@@ -93,19 +89,7 @@ seenCode Recorded = sighted .from
 seenCode Lost = sighted .from + 1
 seenCode Ignored = ignored .from
 
--- the box
-abbrev pub codeOf : Answer → ℕ
-codeOf Done = done .from
-codeOf (Refused r) = numberOf r
-codeOf (Sighted w) = seenCode w
-codeOf (Reply n) = written .from + n
-
 -- the maker and the line writer
 abbrev pub writtenCode : Written → ℕ
-writtenCode (NotWritten r) = numberOf r
+writtenCode (Refused r) = numberOf r
 writtenCode (Octets n) = written .from + n
-
--- the reader
-abbrev pub readCode : Finding Told → ℕ
-readCode (notRead n) = n
-readCode (read t) = told .from + t .status * 2 ^ 24 + t .start * 2 ^ 16 + t .len

@@ -5,8 +5,7 @@ use mathlib.Core.List.{List}
 use Rattle.rules.specs.Box.{Event}
 use Rattle.store.specs.View.{view}
 use Rattle.depot.proofs.Once.{once, made-once, tested-once}
-use Rattle.codes.specs.Codes.{codeOf}
-use Rattle.depot_c.specs.Coded.{CalledAs, MadeAs, TestedAs}
+use Rattle.depot_c.specs.Coded.{codeOf, CalledAs, MadeAs, TestedAs}
 
 module _ (n m : ℕ) where
   pub called-as-once : (e : Event) (s out s′ s″ out′ out″ : List ℕ) → CalledAs e s out n s′ out′ → CalledAs e s out m s″ out″ → (n ≡ m) × (out′ ≡ out″) × (view s′ ≡ view s″)

@@ -1,11 +1,28 @@
 // The box's calls for C and Rust: numbers and lent octets go in, a number comes back. A refused call writes nothing.
 use asking::octet_of;
-use codes::answer_code;
+use codes::WRITTEN;
+use codes::seen_code;
+use events::Answer;
+ghost use mathlib.Core.Path.{_≡_};
+ghost use Prim.Native.Nat.{_<_, _^_};
 ghost use mathlib.Core.List.{[]};
 ghost use lib.ListN.{length};
 ghost use Rattle.rules.specs.Box.{Event};
 ghost use Rattle.asking.specs.Numbers.{octetOf};
-ghost use Rattle.depot_c.specs.Coded.{CalledAs, MadeAs, TestedAs};
+ghost use Rattle.depot_c.specs.Coded.{codeOf, CalledAs, MadeAs, TestedAs};
+
+// The number of an answer.
+fn answer_code(a: Answer) -> u64
+    requires { ⌜ codeOf a < 2 ^ 64 ⌝ }
+    ensures { λ r. ⌜ r ≡ codeOf a ⌝ }
+{
+    match a {
+        Answer::Done => 0,
+        Answer::Refused(r) => r.number() as u64,
+        Answer::Sighted(w) => seen_code(w),
+        Answer::Reply(n) => WRITTEN + n as u64,
+    }
+}
 
 // Makes a fresh store.
 #[no_mangle]

@@ -20,11 +20,11 @@ use Rattle.depot.specs.Called.{testRefusals, TestedOf, freshRefusals, MadeOf}
 use Rattle.reader.specs.declared.Told.{Told}
 use Rattle.reader.specs.Reader.{readerRefusals, readAs}
 use Rattle.requests.specs.declared.Request.{Request}
-use Rattle.codes.specs.Codes.{In, refused, codeOf, writtenCode, readCode}
+use Rattle.codes.specs.Codes.{In, refused, writtenCode}
 use Rattle.demands.specs.Answers.{testsOf}
 use Rattle.demands.proofs.Listed.{refused-first}
-use Rattle.depot_c.specs.Coded.{CalledAs, MadeAs, TestedAs}
-use Rattle.host_c.specs.Coded.{WroteAs}
+use Rattle.depot_c.specs.Coded.{codeOf, CalledAs, MadeAs, TestedAs}
+use Rattle.host_c.specs.Coded.{readCode, WroteAs}
 
 -- a number of that range is a refusal's
 answer-refused : (a : Answer) (n : ℕ) → n ≡ codeOf a → In refused n → (r : Refusal) × (a ≡ Answer.Refused r) × (n ≡ numberOf r)

@@ -1,2 +1,4 @@
+pub mod Fits
+pub mod Told
 pub mod Lengths
 pub mod Once

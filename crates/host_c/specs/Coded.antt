@@ -1,11 +1,12 @@
 -- What each call of the host side owes its reader: the number of an answer, and what every lent octet then holds. Assumes nothing.
-use Prim.Native.Nat.{ℕ}
+use Prim.Native.Nat.{ℕ, _+_, _*_, _^_}
 use mathlib.Core.Path.{_≡_}
 use mathlib.Core.Bool.{Bool, not}
 use mathlib.Core.List.{List, _∷_}
 use lib.ListN.{length}
 use lib.Dec.{eqb}
 use Rattle.octets.specs.Tests.{first}
+use Rattle.frame.specs.Finding.{Finding, refused, found}
 use Rattle.timer.specs.Clock.{timerFrom}
 use Rattle.table.specs.Entries.{recordWidth}
 use Rattle.rules.specs.Config.{blockSize}
@@ -15,10 +16,16 @@ use Rattle.rules.specs.Line.{line}
 use Rattle.requests.specs.declared.Request.{Request}
 use Rattle.requests.specs.Request.{requestFrame}
 use Rattle.maker.specs.Maker.{makerRefusals}
+use Rattle.reader.specs.declared.Told.{Told}
 use Rattle.typed.specs.Typed.{sightingAt, sizesFrom}
 use Rattle.lines.specs.Lines.{lineRefusals, linesOf, linesRefusals}
 use Rattle.fields.specs.Fields.{timerFields, sizesFields, recordFields, putBlockRefusals, putTimerRefusals, putSizesRefusals, putRecordRefusals}
-use Rattle.codes.specs.Codes.{writtenCode}
+use Rattle.codes.specs.Codes.{told, writtenCode}
+
+-- the number of what the reader found
+abbrev pub readCode : Finding Told → ℕ
+readCode (refused n) = n
+readCode (found t) = told .from + t .status * 2 ^ 24 + t .start * 2 ^ 16 + t .len
 
 -- octets or numbers in a lent output: the first test that is given refuses, and nothing is written; else t stands at the start
 pub record WroteAs (tests : List (ℕ × Bool)) (t out : List ℕ) (n : ℕ) (out′ : List ℕ) : Type 0 where

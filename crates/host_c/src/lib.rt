@@ -1,20 +1,22 @@
 // The host side's calls for C and Rust: numbers and lent octets go in, a number comes back. A refused call writes nothing.
 use asking::request_of;
-use codes::read_code;
 use codes::written_code;
 use frame::Refusal;
+use reader::Reading;
 use rules::BLOCK;
 use rules::Written;
 use table::RECORD;
 ghost use mathlib.Core.Path.{_≡_};
+ghost use Prim.Native.Nat.{_<_, _^_};
 ghost use lib.ListN.{length};
 ghost use Rattle.table.specs.Entries.{recordWidth};
 ghost use Rattle.rules.specs.Config.{blockSize};
 ghost use Rattle.rules.specs.Line.{line};
-ghost use Rattle.reader.specs.Reader.{readAs};
-ghost use Rattle.codes.specs.Codes.{readCode};
+ghost use Rattle.reader.specs.Reader.{findingOf, readAs};
 ghost use Rattle.asking.specs.Numbers.{requestOf};
-ghost use Rattle.host_c.specs.Coded.{LineAs, LinesAs, FramedAs, BlockAs, TimerAs, SizesAs, RecordAs};
+ghost use Rattle.host_c.specs.Coded.{readCode, LineAs, LinesAs, FramedAs, BlockAs, TimerAs, SizesAs, RecordAs};
+
+const TOLD: u64 = 4294967296;
 
 // ---- the host side
 
@@ -34,6 +36,20 @@ pub extern "C" fn depot_make(
 {
     let q = request_of(kind, desk, control, a, b, c, bytes);
     written_code(maker::make(q, out))
+}
+
+// The number of what the reader found.
+fn read_code(a: Reading) -> u64
+    requires { ⌜ readCode (findingOf a) < 2 ^ 64 ⌝ }
+    ensures { λ r. ⌜ r ≡ readCode (findingOf a) ⌝ }
+{
+    match a {
+        Reading::Refused(r) => r.number() as u64,
+        Reading::Sound(t) => TOLD
+            + t.status as u64 * 16777216
+            + t.start as u64 * 65536
+            + t.len as u64,
+    }
 }
 
 // Reads the reply to a request.

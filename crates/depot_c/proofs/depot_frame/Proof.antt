@@ -1,6 +1,6 @@
 -- `depot_c::depot_frame` meets its contract: the number of what `depot::frame` answers, which fits since a reply is short. Assumes nothing.
 use lib.ListN.{length}
-use Rattle.codes.proofs.Fits.{frame-fits}
+use Rattle.depot_c.proofs.Fits.{frame-fits}
 use borrow.Author.Needs.{needs}
 use Rattle.depot_c.proofs.depot_frame.Statement.{statement}
 use Rattle.depot_c.proofs.depot_frame.Tie as tie

@@ -1,5 +1,5 @@
 -- `depot_c::depot_fresh` meets its contract: the number of what `depot::fresh` answers. Assumes nothing.
-use Rattle.codes.proofs.Fits.{fresh-fits}
+use Rattle.depot_c.proofs.Fits.{fresh-fits}
 use borrow.Author.Needs.{needs}
 use Rattle.depot_c.proofs.depot_fresh.Statement.{statement}
 use Rattle.depot_c.proofs.depot_fresh.Tie as tie

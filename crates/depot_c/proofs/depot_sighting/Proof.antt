@@ -1,5 +1,5 @@
 -- `depot_c::depot_sighting` meets its contract: the number of what `depot::sighting` answers to the octet of the mask. Assumes nothing.
-use Rattle.codes.proofs.Fits.{sighting-fits}
+use Rattle.depot_c.proofs.Fits.{sighting-fits}
 use borrow.Author.Needs.{needs}
 use Rattle.depot_c.proofs.depot_sighting.Statement.{statement}
 use Rattle.depot_c.proofs.depot_sighting.Tie as tie

@@ -1,5 +1,5 @@
 -- `depot_c::depot_test` meets its contract. Assumes nothing.
-use Rattle.codes.proofs.Fits.{test-fits}
+use Rattle.depot_c.proofs.Fits.{test-fits}
 use borrow.Author.Needs.{needs}
 use Rattle.depot_c.proofs.depot_test.Statement.{statement}
 use Rattle.depot_c.proofs.depot_test.Tie as tie

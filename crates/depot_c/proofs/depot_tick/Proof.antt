@@ -1,5 +1,5 @@
 -- `depot_c::depot_tick` meets its contract: the number of what `depot::tick` answers. Assumes nothing.
-use Rattle.codes.proofs.Fits.{tick-fits}
+use Rattle.depot_c.proofs.Fits.{tick-fits}
 use borrow.Author.Needs.{needs}
 use Rattle.depot_c.proofs.depot_tick.Statement.{statement}
 use Rattle.depot_c.proofs.depot_tick.Tie as tie

@@ -1,7 +1,7 @@
 -- `host_c::depot_line` meets its contract: both lengths, then the line writer. Assumes nothing.
 use native.Mathlib.Omega.{arith}
 use Rattle.host_c.proofs.Lengths.{refused-length, past-length}
-use Rattle.codes.proofs.Fits.{lined-fits}
+use Rattle.host_c.proofs.Fits.{lined-fits}
 use borrow.Author.Needs.{needs}
 use Rattle.host_c.proofs.depot_line.Statement.{statement}
 use Rattle.host_c.proofs.depot_line.Tie as tie

@@ -1,7 +1,7 @@
 -- `host_c::depot_lines` meets its contract: the length of the block, then the line writer. Assumes nothing.
 use native.Mathlib.Omega.{arith}
 use Rattle.host_c.proofs.Lengths.{refused-length, past-length}
-use Rattle.codes.proofs.Fits.{all-lined-fits}
+use Rattle.host_c.proofs.Fits.{all-lined-fits}
 use borrow.Author.Needs.{needs}
 use Rattle.host_c.proofs.depot_lines.Statement.{statement}
 use Rattle.host_c.proofs.depot_lines.Tie as tie

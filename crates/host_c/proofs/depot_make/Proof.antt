@@ -1,6 +1,6 @@
 -- `host_c::depot_make` meets its contract: the number of what the maker answers to the request that the numbers name. Assumes nothing.
 use native.Mathlib.Omega.{arith}
-use Rattle.codes.proofs.Fits.{framed-fits}
+use Rattle.host_c.proofs.Fits.{framed-fits}
 use borrow.Author.Needs.{needs}
 use Rattle.host_c.proofs.depot_make.Statement.{statement}
 use Rattle.host_c.proofs.depot_make.Tie as tie

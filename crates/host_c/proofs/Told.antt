@@ -11,14 +11,16 @@ use Rattle.octets.specs.Numbers.{Octets}
 use Rattle.octets.proofs.Tests.{none-head, none-tail}
 use Rattle.frame.specs.declared.Way.the-variants.{Reply}
 use Rattle.frame.specs.Shape.{shapeOf, replyRoom}
-use Rattle.frame.specs.Finding.{found}
+use Rattle.frame.specs.Finding.{Finding, found}
 use Rattle.frame.proofs.Finding.{finding-found}
 use Rattle.frame.specs.Judged.{kindOf, faults, partsOf}
 use Rattle.frame.proofs.Bounds.{longest-fits}
 use Rattle.requests.specs.declared.Request.{Request}
 use Rattle.reader.specs.declared.Told.{Told}
 use Rattle.reader.specs.Reader.{toldOf, readerRefusals, readAs}
-use Rattle.codes.proofs.Fits.{lead-small}
+use Rattle.codes.specs.Codes.{In, told}
+use Rattle.host_c.specs.Coded.{readCode}
+use Rattle.host_c.proofs.Fits.{lead-small}
 
 pub record Small (t : Told) : Type 0 where
   pub status : t .status < 256
@@ -38,3 +40,7 @@ module _ (q : Request) (s : List ℕ) (octets : Octets s) where
   pub told-small : (t : Told) → readAs q s ≡ found t → Small t
   unfolding readAs
   told-small t e = let u = finding-found (first (readerRefusals q s)) (toldOf (partsOf Reply s) s) t (sym e) in rw (u .1) (here (short (u .0)))
+
+-- so its number stands in the range of what is read
+pub told-in : (t : Told) → Small t → In told (readCode (Finding.found t))
+told-in t h = (omega arith, omega (arith, h .status, h .start, h .len))

@@ -1,12 +1,12 @@
--- `codes::read_code` meets its contract. Assumes nothing.
+-- `host_c::read_code` meets its contract. Assumes nothing.
 use mathlib.Core.Path.{sym, ap}
 use Rattle.reader.specs.Reader.{findingOf}
 use Rattle.reader.specs.declared.Reading.{Reading}
-use Rattle.codes.specs.Codes.{readCode}
+use Rattle.host_c.specs.Coded.{readCode}
 use native.Mathlib.Omega.{arith}
 use borrow.Author.Needs.{needs}
-use Rattle.codes.proofs.read_code.Statement.{statement}
-use Rattle.codes.proofs.read_code.Tie as tie
+use Rattle.host_c.proofs.read_code.Statement.{statement}
+use Rattle.host_c.proofs.read_code.Tie as tie
 
 mul-result-2 : tie.Need-mul-result-2
 mul-result-2 c = omega (arith, rw (c .before .before .a2 .given .1) at (c .before .before .before .before .pre))

@@ -1,10 +1,10 @@
--- `codes::answer_code` meets its contract. Assumes nothing.
+-- `depot_c::answer_code` meets its contract. Assumes nothing.
 use mathlib.Core.Path.{sym, ap}
 use native.Mathlib.Omega.{arith}
-use Rattle.codes.specs.Codes.{codeOf}
+use Rattle.depot_c.specs.Coded.{codeOf}
 use borrow.Author.Needs.{needs}
-use Rattle.codes.proofs.answer_code.Statement.{statement}
-use Rattle.codes.proofs.answer_code.Tie as tie
+use Rattle.depot_c.proofs.answer_code.Statement.{statement}
+use Rattle.depot_c.proofs.answer_code.Tie as tie
 
 add-result : tie.Need-add-result
 add-result c = omega (arith, rw (c .before .a3 .given .1) at (c .before .before .before .pre))
