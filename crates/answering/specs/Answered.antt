@@ -1,14 +1,12 @@
 -- A line is answered: store, reply buffer and output before, how much is printed, and the three after. Assumes nothing.
-use Prim.Native.Nat.{ℕ, _≤_}
+use Prim.Native.Nat.{ℕ}
 use mathlib.Core.Path.{_≡_}
 use mathlib.Core.List.{List, []}
 use lib.ListN.{length}
 use Rattle.rules.specs.Box.{Event}
 use Rattle.events.specs.declared.Answer.{Answer}
 use Rattle.depot.specs.Called.{Called}
-use Rattle.text.specs.Listing.{Line, frame, sighting, tick, notRead, notReadLine, printed, Printed, lineOf}
-use Rattle.feeding.specs.declared.Begun.{Begun}
-use Rattle.feeding.specs.Feeding.{Fed, readOff, heldRoom}
+use Rattle.text.specs.Listing.{Line, frame, sighting, tick, notRead, notReadLine, printed, Printed}
 
 abbrev pub Answers : Line → List ℕ → List ℕ → List ℕ → ℕ → List ℕ → List ℕ → List ℕ → Type 0
 Answers (frame f) s reply out n s′ reply′ out′ =
@@ -21,8 +19,3 @@ Answers notRead s reply out n s′ reply′ out′ = (s′ ≡ s) × (reply′ �
 
 pub record Answered (l : Line) (s reply out : List ℕ) (n : ℕ) (s′ reply′ out′ : List ℕ) : Type 0 where
   pub answers : Answers l s reply out n s′ reply′ out′
-
--- what was read is answered; and where a text was fed into a buffer that has so many octets, its line is answered, however long it is
-pub record ReadOff (at : Begun) (held s reply out : List ℕ) (n : ℕ) (s′ reply′ out′ : List ℕ) : Type 0 where
-  pub read : Answered (readOff at held) s reply out n s′ reply′ out′
-  pub whole : (text : List ℕ) → Fed text at held → heldRoom ≤ length held → Answered (lineOf text) s reply out n s′ reply′ out′

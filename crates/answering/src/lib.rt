@@ -1,8 +1,6 @@
-// What a line is answered: a frame that stands in digits, or a line that is no hex; and the line that was fed octet by octet.
+// What a line is answered: a frame that stands in digits, or a line that is no hex.
 use digits::read::decode;
-use feeding::Begun;
 use frame::Advanced;
-use octets::least;
 use text::print::not_read;
 use text::print::show;
 ghost use mathlib.Core.Path.{_≡_};
@@ -11,7 +9,7 @@ ghost use Prim.Native.Nat.{_≤_};
 ghost use lib.ListN.{length};
 ghost use Rattle.digits.specs.Digits.{octetsOf};
 ghost use Rattle.text.specs.Listing.{Line, isSighting, sightingOf, otherLine, longestLine};
-ghost use Rattle.answering.specs.Answered.{Answered, ReadOff};
+ghost use Rattle.answering.specs.Answered.{Answered};
 
 // Answers a frame; of one that is longer than any may be, the first octets are enough to refuse it.
 pub fn framed(s: &[u8], store: &mut [u8], reply: &mut [u8], out: &mut [u8]) -> usize
@@ -49,28 +47,4 @@ pub fn other(s: &[u8], store: &mut [u8], reply: &mut [u8], out: &mut [u8]) -> us
         return sighted(s, store, reply, out);
     }
     not_read(out)
-}
-
-// Answers the line that was fed: the box is called, and what is to be printed stands at the start of the output.
-pub fn answer(
-    state: Begun,
-    held: &[u8],
-    store: &mut [u8],
-    reply: &mut [u8],
-    out: &mut [u8],
-) -> usize
-    requires { ⌜ longestLine ≤ length (now out) ⌝ }
-    ensures { λ r. ⌜ ReadOff state (now (held .entry)) (now (store .entry)) (now (reply .entry)) (now (out .entry)) r (now (store .exit)) (now (reply .exit)) (now (out .exit)) ⌝ }
-{
-    let n = least(state.held, held.len());
-    if state.bad {
-        if state.over {
-            return not_read(out);
-        }
-        return other(&held[..n], store, reply, out);
-    }
-    if state.odd {
-        return not_read(out);
-    }
-    framed(&held[..n], store, reply, out)
 }

@@ -1,9 +1,9 @@
 // A command's own tests: the status of the first that is given, or 0. They read the data alone.
+use rules::control::RowCommand;
 use ruling::adr::block_of;
 use ruling::adr::in_eeprom;
 use ruling::adr::names_one;
 use ruling::adr::names_some;
-use rules::control::RowCommand;
 ghost use mathlib.Core.Path.{_≡_};
 ghost use mathlib.Core.Bool.{true, cond, not, _&&_};
 ghost use Prim.Native.Nat.{_+_, _≤_};

@@ -2,12 +2,12 @@
 use effects::Reply;
 use effects::plain;
 use frame::Kind;
-use ruling::control;
 use rules::control::Command;
 use rules::control::Known;
 use rules::control::RowCommand;
 use rules::control::TableCommand;
 use rules::control::Terms;
+use ruling::control;
 ghost use mathlib.Core.Path.{_≡_};
 ghost use mathlib.Core.Bool.{true, not, _&&_};
 ghost use Prim.Native.Nat.{_≤_, _<_};

@@ -12,7 +12,7 @@ use Rattle.octets.proofs.Puts.{put-length}
 use Rattle.text.specs.Listing.{longestLine}
 use Rattle.feeding.specs.declared.Begun.{Begun}
 use Rattle.feeding.specs.Feeding.{readOff}
-use Rattle.answering.specs.Answered.{ReadOff}
+use Rattle.readoff.specs.ReadOff.{ReadOff}
 use Rattle.answering.proofs.Room.{answered-text}
 use Rattle.turning.specs.Turning.{State, Takes, Ends}
 use Rattle.taking.specs.Taking.{roomy, Took, TookPart, Finished}

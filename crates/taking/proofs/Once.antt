@@ -12,7 +12,7 @@ use Rattle.text.specs.Whole.{lf}
 use Rattle.depot.proofs.Once.{AsOne, kept-once}
 use Rattle.feeding.specs.declared.Begun.{Begun}
 use Rattle.feeding.specs.Feeding.{readOff}
-use Rattle.answering.specs.Answered.{ReadOff}
+use Rattle.readoff.specs.ReadOff.{ReadOff}
 use Rattle.answering.proofs.Once.{Same as Printing, answered-once}
 use Rattle.turning.specs.Turning.{State, lent, LineEnds, LineGoesOn, Takes, Ends}
 use Rattle.taking.specs.Taking.{roomy, Took, TookPart, Finished}

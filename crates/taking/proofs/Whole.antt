@@ -19,7 +19,7 @@ use Rattle.text.specs.Listing.{lineOf}
 use Rattle.text.specs.Whole.{lastLine, linesFrom, said, printedFrom, listing}
 use Rattle.feeding.specs.declared.Begun.{Begun}
 use Rattle.feeding.specs.Feeding.{Fed, Starts, heldRoom}
-use Rattle.answering.specs.Answered.{ReadOff}
+use Rattle.readoff.specs.ReadOff.{ReadOff}
 use Rattle.answering.proofs.Meaning.{Means, answered-means}
 use Rattle.turning.specs.Turning.{State, Ends}
 use Rattle.taking.specs.Taking.{Sized, Finished}

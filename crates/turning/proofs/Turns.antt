@@ -14,7 +14,7 @@ use Rattle.text.specs.Whole.{lf}
 use Rattle.digits.proofs.Values.{rest-of}
 use Rattle.feeding.specs.declared.Begun.{Begun}
 use Rattle.feeding.specs.Feeding.{noneFed, Feeds, readOff}
-use Rattle.answering.specs.Answered.{ReadOff}
+use Rattle.readoff.specs.ReadOff.{ReadOff}
 use Rattle.answering.proofs.Room.{answered-text}
 use Rattle.turning.specs.Turning.{State, lent, LineEnds, LineGoesOn, Takes, Ends}
 

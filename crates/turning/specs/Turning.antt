@@ -9,7 +9,7 @@ use Rattle.octets.specs.Parts.{put}
 use Rattle.text.specs.Whole.{lf}
 use Rattle.feeding.specs.declared.Begun.{Begun}
 use Rattle.feeding.specs.Feeding.{noneFed, Feeds}
-use Rattle.answering.specs.Answered.{ReadOff}
+use Rattle.readoff.specs.ReadOff.{ReadOff}
 
 -- what a call carries and what it is lent: the line that is begun and how many octets are written to the output; the octets held of
 -- the line, store, reply buffer and output

@@ -1,8 +1,8 @@
 // One octet of the listing's input: it goes on with a line, or is the LF that ends it; and a last line without LF.
-use answering::answer;
 use feeding::Begun;
 use feeding::feed;
 use feeding::start;
+use readoff::answer;
 ghost use mathlib.Core.Path.{_≡_};
 ghost use Prim.Native.Nat.{_+_, _≤_, _<_};
 ghost use lib.ListN.{length, getD};

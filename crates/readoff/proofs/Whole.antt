@@ -14,11 +14,12 @@ use Rattle.feeding.specs.declared.Begun.{Begun}
 use Rattle.digits.specs.Digits.{isHex, octetsOf}
 use Rattle.text.specs.Listing.{Line, frame, notRead, odd, otherLine, lineOf}
 use Rattle.feeding.specs.Feeding.{Fed, readOff, heldRoom}
-use Rattle.answering.specs.Answered.{Answered, ReadOff}
+use Rattle.answering.specs.Answered.{Answered}
+use Rattle.readoff.specs.ReadOff.{ReadOff}
 use Rattle.digits.proofs.Values.{octets-length}
 use Rattle.feeding.proofs.Held.{reads-long, reads-other, reads-odd, reads-frame, all-held}
 use Rattle.answering.proofs.Long.{long-called}
 use Rattle.answering.proofs.NoHex.{long-other}
 
 -- ---- the line that a text is
 

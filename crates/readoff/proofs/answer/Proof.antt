@@ -1,4 +1,4 @@
--- `answering::answer` meets its contract. Assumes nothing.
+-- `readoff::answer` meets its contract. Assumes nothing.
 use Prim.Native.Nat.{ℕ}
 use mathlib.Core.List.{List}
 use mathlib.Core.Path.{_≡_, refl, sym, ap, _∙_}
@@ -9,9 +9,9 @@ use Rattle.digits.specs.Digits.{octetsOf}
 use Rattle.text.specs.Listing.{frame, notRead, otherLine}
 use Rattle.digits.proofs.Values.{take-least}
 use Rattle.feeding.proofs.Held.{reads-long, reads-other, reads-odd, reads-frame}
-use Rattle.answering.proofs.Whole.{read-whole}
-use Rattle.answering.proofs.answer.Statement.{statement}
-use Rattle.answering.proofs.answer.Tie as tie
+use Rattle.readoff.proofs.Whole.{read-whole}
+use Rattle.readoff.proofs.answer.Statement.{statement}
+use Rattle.readoff.proofs.answer.Tie as tie
 
 -- what is handed on is all that is held
 all-held : (c : tie.After-least) → take (c .least .result) (c .before .before .before .before .before .args .held .now) ≡ take (c .before .before .before .before .before .args .state .held) (c .before .before .before .before .before .args .held .now)
