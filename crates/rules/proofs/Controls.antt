@@ -1,6 +1,6 @@
 -- The command table: what a control byte finds, and what it does not. Assumes nothing.
 use Prim.Native.Nat.{ℕ}
-use mathlib.Core.Path.{_≡_, refl, subst}
+use mathlib.Core.Path.{_≡_, refl, sym, ap, subst}
 use mathlib.Core.Bool.{Bool, true, false, cond}
 use mathlib.Core.List.{List, [], _∷_}
 use native.Mathlib.Omega.{arith}
@@ -10,12 +10,12 @@ use Rattle.octets.specs.Each.{All}
 use Rattle.rules.specs.declared.control.Command.{Command}
 use Rattle.rules.specs.declared.control.Terms.{Terms}
 use Rattle.rules.specs.declared.control.Known.the-variants.{Listed, Unknown}
-use Rattle.rules.specs.Control.{termsOf, commands, knownIn, known}
+use Rattle.rules.specs.Control.{terms, columns, termsOf, commands, knownIn, known}
 
--- ---- the terms of a command that is told
+-- ---- the terms of a command are its columns
 
-pub told : {A : Type 0} (of : A → Command) (c x : A) (r : Terms) → c ≡ x → r ≡ termsOf (of x) → r ≡ termsOf (of c)
-told of c x r e h = rw e h
+pub listed : (c : Command) (control size : ℕ) (login : Bool) → columns c ≡ (control, size, login) → terms control size login c ≡ termsOf c
+listed c control size login e = sym (ap (λ (x : ℕ × ℕ × Bool). terms (x .0) (x .1) (x .2) c) e)
 
 -- ---- a control byte that is no command's finds none
 

@@ -8,11 +8,14 @@ use rules::control::Terms;
 ghost use mathlib.Core.Path.{_≡_};
 ghost use mathlib.Core.Bool.{false};
 ghost use Rattle.rules.specs.declared.control.Command.{Command};
+ghost use Rattle.rules.specs.declared.control.RowCommand.{RowCommand};
 ghost use Rattle.rules.specs.declared.control.Known.{Known};
-ghost use Rattle.rules.specs.Control.{terms, termsOf, known};
+ghost use Rattle.rules.specs.Control.{columns, termsOf, known};
 
+// The terms of a command, as the table lists them.
 fn on_row(control: u8, size: usize, login: bool, command: RowCommand) -> Terms
-    ensures { λ r. ⌜ r ≡ terms control size login (Command.OnRow command) ⌝ }
+    requires { ⌜ columns (Command.OnRow command) ≡ (control, size, login) ⌝ }
+    ensures { λ r. ⌜ r ≡ termsOf (Command.OnRow command) ⌝ }
 {
     Terms {
         control,
@@ -22,9 +25,18 @@ fn on_row(control: u8, size: usize, login: bool, command: RowCommand) -> Terms
     }
 }
 
+// A write carries CFG-ADR and a block.
+fn write_terms(command: RowCommand) -> Terms
+    requires { ⌜ command ≡ RowCommand.WriteBlock ⌝ }
+    ensures { λ r. ⌜ r ≡ termsOf (Command.OnRow command) ⌝ }
+{
+    on_row(0x81, 1 + BLOCK, true, command)
+}
+
 // None of these wants a login.
 fn on_table(control: u8, size: usize, command: TableCommand) -> Terms
-    ensures { λ r. ⌜ r ≡ terms control size false (Command.OnTable command) ⌝ }
+    requires { ⌜ columns (Command.OnTable command) ≡ (control, size, false) ⌝ }
+    ensures { λ r. ⌜ r ≡ termsOf (Command.OnTable command) ⌝ }
 {
     Terms {
         control,
@@ -38,15 +50,15 @@ fn row_terms(command: RowCommand) -> Terms
     ensures { λ r. ⌜ r ≡ termsOf (Command.OnRow command) ⌝ }
 {
     match command {
-        RowCommand::Baud => on_row(0x52, 1, false, RowCommand::Baud),
-        RowCommand::Reset => on_row(0x63, 0, false, RowCommand::Reset),
-        RowCommand::ReadBlock => on_row(0x80, 1, true, RowCommand::ReadBlock),
-        RowCommand::WriteBlock => on_row(0x81, 1 + BLOCK, true, RowCommand::WriteBlock),
-        RowCommand::SaveBlocks => on_row(0x82, 1, true, RowCommand::SaveBlocks),
-        RowCommand::RestoreBlocks => on_row(0x83, 1, true, RowCommand::RestoreBlocks),
-        RowCommand::SetTimer => on_row(0x85, 4, false, RowCommand::SetTimer),
-        RowCommand::SendTimer => on_row(0x86, 0, false, RowCommand::SendTimer),
-        RowCommand::Login => on_row(0xA0, 4, false, RowCommand::Login),
+        RowCommand::Baud => on_row(0x52, 1, false, command),
+        RowCommand::Reset => on_row(0x63, 0, false, command),
+        RowCommand::ReadBlock => on_row(0x80, 1, true, command),
+        RowCommand::WriteBlock => write_terms(command),
+        RowCommand::SaveBlocks => on_row(0x82, 1, true, command),
+        RowCommand::RestoreBlocks => on_row(0x83, 1, true, command),
+        RowCommand::SetTimer => on_row(0x85, 4, false, command),
+        RowCommand::SendTimer => on_row(0x86, 0, false, command),
+        RowCommand::Login => on_row(0xA0, 4, false, command),
     }
 }
 
@@ -54,11 +66,11 @@ fn table_terms(command: TableCommand) -> Terms
     ensures { λ r. ⌜ r ≡ termsOf (Command.OnTable command) ⌝ }
 {
     match command {
-        TableCommand::SystemReset => on_table(0x64, 0, TableCommand::SystemReset),
-        TableCommand::ReadRecords => on_table(0x22, 2, TableCommand::ReadRecords),
-        TableCommand::SendTable => on_table(0x31, 0, TableCommand::SendTable),
-        TableCommand::RemoveRecords => on_table(0x32, 0, TableCommand::RemoveRecords),
-        TableCommand::ClearRecords => on_table(0x33, 0, TableCommand::ClearRecords),
+        TableCommand::SystemReset => on_table(0x64, 0, command),
+        TableCommand::ReadRecords => on_table(0x22, 2, command),
+        TableCommand::SendTable => on_table(0x31, 0, command),
+        TableCommand::RemoveRecords => on_table(0x32, 0, command),
+        TableCommand::ClearRecords => on_table(0x33, 0, command),
     }
 }
 

@@ -5,7 +5,7 @@ use Rattle.lockarea.proofs.write_lock.Statement.{statement}
 use Rattle.lockarea.proofs.write_lock.Tie as tie
 
 returns : tie.Need-returns
-returns c = rw put-lock cc
+returns c = rw put-lock (rw (c .before .before .before .before .before .before .put64 .ensures) at (c .before .before .put16 .ensures))
 
 pub write-lock-spec : {M : Type 1} → statement M
 write-lock-spec =
