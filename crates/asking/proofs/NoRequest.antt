@@ -17,7 +17,8 @@ use Rattle.requests.specs.Request.{inRange}
 use Rattle.maker.specs.Maker.{makerRefusals}
 use Rattle.possible.specs.Possible.{possible}
 use Rattle.reader.specs.Reader.{answersTo, readerRefusals}
-use Rattle.asking.specs.Numbers.{octetOf, noAsk, whole, requestOf}
+use Rattle.codes.specs.Codes.{octetOf}
+use Rattle.asking.specs.Numbers.{noAsk, whole, requestOf}
 
 -- no frame kind or no block beside a write; or a control byte that is none of the fourteen
 pub no-ask : (kind desk control a b c : ℕ) (bytes : List ℕ) → (whole kind (octetOf control) bytes ≡ false) ⊎ (known (octetOf control) ≡ Unknown) → requestOf kind desk control a b c bytes .ask ≡ noAsk

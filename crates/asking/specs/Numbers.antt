@@ -16,13 +16,10 @@ use Rattle.rules.specs.declared.control.Known.{Known}
 use Rattle.rules.specs.declared.control.Known.the-variants.{Listed, Unknown}
 use Rattle.rules.specs.Config.{blockSize}
 use Rattle.rules.specs.Control.{known}
+use Rattle.codes.specs.Codes.{octetOf}
 use Rattle.requests.specs.declared.Ask.{Ask}
 use Rattle.requests.specs.declared.Request.{Request}
 use Rattle.typed.specs.Typed.{bytesOf}
-
--- an antenna mask and a control byte are one octet each; a larger number is as 0, which is no mask and no command
-unfoldable pub octetOf : ℕ → ℕ
-octetOf n = cond (ltb n 256) n 0
 
 -- 0 standard, 1 advanced
 unfoldable pub kindNamed : ℕ → Kind

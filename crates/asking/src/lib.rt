@@ -1,4 +1,5 @@
 // Numbers and octets, read as a request.
+use codes::octet_of;
 use frame::Kind;
 use requests::Ask;
 use requests::Request;
@@ -11,17 +12,7 @@ use ruling::control;
 ghost use mathlib.Core.Path.{_≡_};
 ghost use mathlib.Core.Bool.{cond};
 ghost use Rattle.rules.specs.Control.{known};
-ghost use Rattle.asking.specs.Numbers.{octetOf, kindNamed, rowAsk, tableAsk, askWith, noAsk, askOf, whole, requestOf};
-
-// A number that is to be one octet: 0, which is no mask and no command, for one that is not.
-pub fn octet_of(n: u64) -> u8
-    ensures { λ r. ⌜ r ≡ octetOf n ⌝ }
-{
-    if n < 256 {
-        return n as u8;
-    }
-    0
-}
+ghost use Rattle.asking.specs.Numbers.{kindNamed, rowAsk, tableAsk, askWith, noAsk, askOf, whole, requestOf};
 
 fn kind_of(kind: u64) -> Kind
     ensures { λ r. ⌜ r ≡ kindNamed kind ⌝ }

@@ -1,7 +1,10 @@
--- How the answers of the calls become numbers of 64 bits: each kind of answer has a range of its own. Assumes nothing.
+-- How the answers of the calls become numbers of 64 bits: each kind of answer has a range of its own; and a number that C passes for an
+-- octet. Assumes nothing.
 use Prim.Native.Nat.{ℕ, _+_, _*_, _^_, _≤_, _<_}
+use mathlib.Core.Bool.{cond}
 use mathlib.Core.List.{List, [], _∷_}
 use lib.ListN.{length, getD}
+use lib.Dec.{ltb}
 use Rattle.frame.specs.Refusal.{numberOf}
 use Rattle.rules.specs.declared.Seen.{Seen}
 use Rattle.rules.specs.declared.Seen.the-variants.{Ignored, Lost, Recorded}
@@ -93,3 +96,9 @@ seenCode Ignored = ignored .from
 abbrev pub writtenCode : Written → ℕ
 writtenCode (Refused r) = numberOf r
 writtenCode (Octets n) = written .from + n
+
+-- ---- what C passes
+
+-- an antenna mask and a control byte are one octet each; a larger number is as 0, which is no mask and no command
+unfoldable pub octetOf : ℕ → ℕ
+octetOf n = cond (ltb n 256) n 0

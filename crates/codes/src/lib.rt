@@ -1,9 +1,10 @@
-// The number of an answer, in the range of its kind: of a sighting, and of what was written. That of an answer of the box stands in depot_c, of the reader in host_c.
+// What the calls of box and host side for C share: the number of an answer, in the range of its kind, of a sighting and of what was
+// written (of an answer of the box: depot_c; of the reader: host_c), and a number that C passes for an octet.
 use rules::Seen;
 use rules::Written;
 ghost use mathlib.Core.Path.{_≡_};
 ghost use Prim.Native.Nat.{_<_, _^_};
-ghost use Rattle.codes.specs.Codes.{seenCode, writtenCode};
+ghost use Rattle.codes.specs.Codes.{octetOf, seenCode, writtenCode};
 
 const RECORDED: u64 = 64;
 
@@ -12,6 +13,16 @@ const LOST: u64 = 65;
 const IGNORED: u64 = 65536;
 
 pub const WRITTEN: u64 = 9223372036854775808;
+
+// A number that is to be one octet: 0, which is no mask and no command, for one that is not.
+pub fn octet_of(n: u64) -> u8
+    ensures { λ r. ⌜ r ≡ octetOf n ⌝ }
+{
+    if n < 256 {
+        return n as u8;
+    }
+    0
+}
 
 // Of a sighting.
 pub fn seen_code(w: Seen) -> u64

@@ -1,6 +1,6 @@
 // The box's calls for C and Rust: numbers and lent octets go in, a number comes back. A refused call writes nothing.
-use asking::octet_of;
 use codes::WRITTEN;
+use codes::octet_of;
 use codes::seen_code;
 use events::Answer;
 ghost use mathlib.Core.Path.{_≡_};
@@ -8,7 +8,7 @@ ghost use Prim.Native.Nat.{_<_, _^_};
 ghost use mathlib.Core.List.{[]};
 ghost use lib.ListN.{length};
 ghost use Rattle.rules.specs.Box.{Event};
-ghost use Rattle.asking.specs.Numbers.{octetOf};
+ghost use Rattle.codes.specs.Codes.{octetOf};
 ghost use Rattle.depot_c.specs.Coded.{codeOf, CalledAs, MadeAs, TestedAs};
 
 // The number of an answer.

@@ -1,9 +1,9 @@
--- `asking::octet_of` meets its contract. Assumes nothing.
+-- `codes::octet_of` meets its contract. Assumes nothing.
 use borrow.Author.Tests.{lt-ltb, le-ltb}
-use Rattle.asking.specs.Numbers.{octetOf}
+use Rattle.codes.specs.Codes.{octetOf}
 use borrow.Author.Needs.{needs}
-use Rattle.asking.proofs.octet_of.Statement.{statement}
-use Rattle.asking.proofs.octet_of.Tie as tie
+use Rattle.codes.proofs.octet_of.Statement.{statement}
+use Rattle.codes.proofs.octet_of.Tie as tie
 
 returns : tie.Need-returns
 unfolding octetOf
