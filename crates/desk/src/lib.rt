@@ -50,11 +50,11 @@ fn on_table(
     ensures { λ r. ⌜ Obeyed d kind (ruled (Command.OnTable command) kind (kept d (now (s .entry))) (now (body .entry))) r (now (s .entry)) (now (s .exit)) (now (out .entry)) (now (out .exit)) ⌝ }
 {
     match command {
-        TableCommand::SystemReset => records::system_reset(s, d),
+        TableCommand::SystemReset => removals::system_reset(s, d),
         TableCommand::ReadRecords => records::read(s, d, kind, body, out),
         TableCommand::SendTable => records::send_table(s, d, kind, out),
-        TableCommand::RemoveRecords => records::remove(s, d),
-        TableCommand::ClearRecords => records::clear(s, d),
+        TableCommand::RemoveRecords => removals::remove(s, d),
+        TableCommand::ClearRecords => removals::clear(s, d),
     }
 }
 

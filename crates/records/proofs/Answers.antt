@@ -9,8 +9,6 @@ use Rattle.frame.specs.declared.Kind.{Kind}
 use Rattle.frame.specs.declared.Way.the-variants.{Reply as ReplyWay}
 use Rattle.frame.specs.Shape.{dataAt}
 use Rattle.table.specs.Entries.{desks}
-use Rattle.rules.specs.declared.control.TableCommand.{TableCommand}
-use Rattle.rules.specs.declared.control.Command.the-variants.{OnTable}
 use Rattle.rules.specs.Desk.{Desk}
 use Rattle.rules.specs.Command.{Result, result}
 use Rattle.store.specs.Sound.{sound}
@@ -18,7 +16,7 @@ use Rattle.keeping.specs.Kept.{kept, Says}
 use Rattle.keeping.proofs.Rows.{unchanged}
 use Rattle.effects.specs.declared.Reply.{Reply}
 use Rattle.effects.specs.Obeyed.{Carries}
-use Rattle.records.specs.Obeyed.{ruled, Obeyed, Quiet}
+use Rattle.records.specs.Obeyed.{Obeyed}
 
 -- data that stand at their place
 pub told-as : (kind : Kind) (res : Result) (status : ℕ) (sent : List ℕ) (desk′ : Desk) (r : Reply) (out out′ : List ℕ) → res ≡ result status sent desk′
@@ -38,9 +36,3 @@ module _ (s : List ℕ) (e : sound s ≡ true) (d : ℕ) (h : d < desks) where
       → Obeyed d kind res r s s out out
   unfolding put
   plain-obeyed kind res status r out q p = obeyed-as d kind res status [] (kept d s) r s s out out q p refl (unchanged s e d h)
-
-  -- a command on the records that leaves this desk
-  pub quiet : (c : TableCommand) (desk′ : Desk) (r : Reply) (s′ : List ℕ) → ((kind : Kind) (body : List ℕ) → ruled (OnTable c) kind (kept d s) body ≡ result 0 [] desk′)
-      → r ≡ record { status = 0; len = 0 } → Says d desk′ s s′ → Quiet c d r s s′
-  unfolding put
-  quiet c desk′ r s′ q p says = record { obeyed = λ kind body out. obeyed-as d kind _ 0 [] desk′ r s s′ out out (q kind body) p refl says }

@@ -1,8 +1,7 @@
 -- What a command leaves: the answer of the rules, its data in the output, a sound store that says the rules' desk. Assumes nothing.
 use Prim.Native.Nat.{ℕ, min}
-use mathlib.Core.Path.{_≡_}
-use mathlib.Core.Bool.{true, cond}
-use mathlib.Core.List.{List, []}
+use mathlib.Core.Bool.{cond}
+use mathlib.Core.List.{List}
 use lib.Dec.{ltb}
 use lib.ListN.{take}
 use Rattle.octets.specs.Tests.{first}
@@ -12,11 +11,9 @@ use Rattle.rules.specs.declared.control.Command.the-variants.{OnTable}
 use Rattle.rules.specs.declared.control.TableCommand.{TableCommand}
 use Rattle.rules.specs.Desk.{Desk}
 use Rattle.rules.specs.Records.{mostSent, counted, sentTable}
-use Rattle.rules.specs.Legal.{deskLegal}
 use Rattle.rules.specs.Command.{Result, result, ownTests, effect, unless}
-use Rattle.doings.specs.declared.Doing.{Doing}
-use Rattle.doings.specs.Doing.{onTable, doneBy}
-use Rattle.keeping.specs.Kept.{kept, Says, withHeld}
+use Rattle.doings.specs.Doing.{onTable}
+use Rattle.keeping.specs.Kept.{kept, Says}
 use Rattle.effects.specs.declared.Reply.{Reply}
 use Rattle.effects.specs.Obeyed.{Carries}
 
@@ -34,19 +31,6 @@ pub record Obeyed (d : ℕ) (kind : Kind) (res : Result) (r : Reply) (s s′ out
   pub told : Carries kind res r out out′
   pub says : Says d (res .desk) s s′
 
--- of a command on the records that takes no data: a reply with data, and one without, in either kind of frame
+-- of a command on the records that takes no data, and sends some
 pub record Sent (c : TableCommand) (d : ℕ) (kind : Kind) (r : Reply) (s out out′ : List ℕ) : Type 0 where
   pub obeyed : (body : List ℕ) → Obeyed d kind (ruled (OnTable c) kind (kept d s) body) r s s out out′
-
-pub record Quiet (c : TableCommand) (d : ℕ) (r : Reply) (s s′ : List ℕ) : Type 0 where
-  pub obeyed : (kind : Kind) (body out : List ℕ) → Obeyed d kind (ruled (OnTable c) kind (kept d s) body) r s s′ out out
-
--- a doing that leaves a legal desk, with its records and without them
-pub record Empties (what : Doing) (desk : Desk) : Type 0 where
-  pub full : deskLegal (doneBy what desk) ≡ true
-  pub bare : deskLegal (withHeld [] (doneBy what desk)) ≡ true
-
--- it was done, and no records are left
-pub record Emptied (what : Doing) (d : ℕ) (r : Reply) (s s′ : List ℕ) : Type 0 where
-  pub plain : r ≡ record { status = 0; len = 0 }
-  pub says : Says d (withHeld [] (doneBy what (kept d s))) s s′

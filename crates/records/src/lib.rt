@@ -1,4 +1,4 @@
-// The commands on a desk's records: read, table, remove, clear; and 0x64, which empties them too.
+// The commands that tell a desk's records: 0x22 the oldest of them, 0x31 how many and where the table begins.
 use doings::Doing;
 use effects::Reply;
 use effects::plain;
@@ -17,7 +17,7 @@ ghost use Rattle.rules.specs.declared.control.Command.{Command};
 ghost use Rattle.rules.specs.declared.control.TableCommand.{TableCommand};
 ghost use Rattle.store.specs.Sound.{sound};
 ghost use Rattle.keeping.specs.Kept.{kept};
-ghost use Rattle.records.specs.Obeyed.{ruled, sends, Obeyed, Sent, Quiet, Empties, Emptied};
+ghost use Rattle.records.specs.Obeyed.{ruled, sends, Obeyed, Sent};
 
 // 0x93 if the mark is set; else 0x94 if fewer went than were there to send; else 0x00.
 fn status_of(mark: bool, goes: usize, wanted: usize) -> u8
@@ -75,42 +75,4 @@ pub fn send_table(s: &[u8], d: usize, kind: Kind, out: &mut [u8]) -> Reply
     octets::put16(out, to + 2, keeping::marks_of(s, d).start as u16);
     octets::put16(out, to + 4, holding::held(s, d) as u16);
     Reply { status: 0, len: 6 }
-}
-
-// 0x32: those last sent go, once.
-pub fn remove(s: &mut [u8], d: usize) -> Reply
-    requires { ⌜ (sound (now s) ≡ true) × (d < desks) ⌝ }
-    ensures { λ r. ⌜ Quiet TableCommand.RemoveRecords d r (now (s .entry)) (now (s .exit)) ⌝ }
-{
-    let m = keeping::marks_of(s, d);
-    let start = (m.start as u16 + m.due as u16) % table::SHARE;
-    keeping::act(s, d, Doing::Close(start as u8));
-    holding::remove_first(s, d, m.due as usize);
-    plain(0)
-}
-
-// A doing that empties all but the records, and then these: a desk holds no more than its share.
-fn empty(s: &mut [u8], d: usize, what: Doing) -> Reply
-    requires { ⌜ (sound (now s) ≡ true) × (d < desks) × Empties what (kept d (now s)) ⌝ }
-    ensures { λ r. ⌜ Emptied what d r (now (s .entry)) (now (s .exit)) ⌝ }
-{
-    keeping::act(s, d, what);
-    holding::remove_first(s, d, table::SHARE as usize);
-    plain(0)
-}
-
-// 0x33: no records, no locks.
-pub fn clear(s: &mut [u8], d: usize) -> Reply
-    requires { ⌜ (sound (now s) ≡ true) × (d < desks) ⌝ }
-    ensures { λ r. ⌜ Quiet TableCommand.ClearRecords d r (now (s .entry)) (now (s .exit)) ⌝ }
-{
-    empty(s, d, Doing::Clear)
-}
-
-// 0x64: as 0x63; also no records, and timer 0.
-pub fn system_reset(s: &mut [u8], d: usize) -> Reply
-    requires { ⌜ (sound (now s) ≡ true) × (d < desks) ⌝ }
-    ensures { λ r. ⌜ Quiet TableCommand.SystemReset d r (now (s .entry)) (now (s .exit)) ⌝ }
-{
-    empty(s, d, Doing::Restart)
 }

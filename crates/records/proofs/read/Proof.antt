@@ -1,4 +1,5 @@
 -- `records::read` meets its contract: its tests, and then what is wanted goes. Assumes nothing.
+use native.Mathlib.Omega.{arith}
 use mathlib.Core.Path.{_≡_, sym, _∙_}
 use Rattle.octets.specs.Numbers.{u16At}
 use Rattle.keeping.specs.Kept.{kept}
@@ -11,6 +12,18 @@ use Rattle.records.proofs.read.Tie as tie
 -- some are asked for
 asked : (c : tie.Else1) → u16At 0 (c .before .before .before .before .before .args .body .now) ≡ 0 → ⊥
 asked c q = c .if1 .left (c .before .get16 .ensures ∙ q)
+
+held-requires : tie.Need-held-requires
+held-requires c κs =
+    let z = c .before .before .before .before .before .before in
+    (z .pre .0, z .pre .1)
+
+send-requires : tie.Need-send-requires
+send-requires c κs =
+    let w = c .before in
+    let n = w .before .before .before in
+    let z = n .before .before .before .before .before .before .before in
+    (z .pre .0, z .pre .1, omega (arith, w .least .ensures .2, n .held .ensures .0), z .pre .3)
 
 returns : tie.Need-returns
 returns c =
@@ -38,6 +51,6 @@ returns-3 c =
 pub read-spec : {M : Type 1} → statement M
 read-spec =
     tie.close
-    (tie.spec (λ c κs. search needs) (λ c. search needs) (λ c κs. search needs) returns (λ c κs. search needs)
-    (λ c κs. search needs) (λ c. search needs) returns-2 (λ c κs. search needs) (λ c κs. search needs) (λ c. search needs)
+    (tie.spec (λ c κs. search needs) (λ c. search needs) (λ c κs. search needs) returns held-requires
+    (λ c κs. search needs) (λ c. search needs) returns-2 (λ c κs. search needs) send-requires (λ c. search needs)
     (λ c. search needs) returns-3)

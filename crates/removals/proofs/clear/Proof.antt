@@ -1,9 +1,9 @@
--- `records::clear` meets its contract. Assumes nothing.
+-- `removals::clear` meets its contract. Assumes nothing.
 use Rattle.keeping.proofs.Rows.{kept-legal}
-use Rattle.records.proofs.TableAnswers.{clear-empties, cleared}
+use Rattle.removals.proofs.Removals.{clear-empties, cleared}
 use borrow.Author.Needs.{needs}
-use Rattle.records.proofs.clear.Statement.{statement}
-use Rattle.records.proofs.clear.Tie as tie
+use Rattle.removals.proofs.clear.Statement.{statement}
+use Rattle.removals.proofs.clear.Tie as tie
 
 pub clear-spec : {M : Type 1} → statement M
 clear-spec =

@@ -1,10 +1,11 @@
--- `records::remove` meets its contract: those due go. Assumes nothing.
+-- `removals::remove` meets its contract: those due go. Assumes nothing.
 use native.Mathlib.Omega.{arith}
+use mathlib.Core.Path.{refl}
 use Rattle.keeping.proofs.Rows.{kept-legal}
-use Rattle.records.proofs.TableAnswers.{close-legal, short-bare, removed-done}
+use Rattle.removals.proofs.Removals.{close-legal, fewer-bare, removed-done}
 use borrow.Author.Needs.{needs}
-use Rattle.records.proofs.remove.Statement.{statement}
-use Rattle.records.proofs.remove.Tie as tie
+use Rattle.removals.proofs.remove.Statement.{statement}
+use Rattle.removals.proofs.remove.Tie as tie
 
 act-requires : tie.Need-act-requires
 act-requires c κs =
@@ -16,7 +17,7 @@ remove-first-requires c κs =
     let a = c .before .before .before .before in
     let m = a .before .before .before .before in
     let z = m .before .before .before in
-    (a .act .ensures .still, z .pre .1, short-bare _ (z .pre .0) _ (z .pre .1) _ (m .marks-of .ensures) _ (a .act .ensures))
+    (a .act .ensures .still, z .pre .1, rw (fewer-bare _ (z .pre .0) _ (z .pre .1) _ (m .marks-of .ensures) _ (a .act .ensures)))
 
 returns : tie.Need-returns
 returns c =
@@ -24,7 +25,7 @@ returns c =
     let a = f .before .before .before .before .before in
     let m = a .before .before .before .before in
     let z = m .before .before .before in
-    removed-done _ (z .pre .0) _ (z .pre .1) _ (m .marks-of .ensures) _ _ _ (c .plain .ensures) (a .act .ensures) (f .remove-first .ensures)
+    removed-done _ (z .pre .0) _ (z .pre .1) _ (m .marks-of .ensures) _ (a .act .ensures) _ _ _ (c .plain .ensures) (f .remove-first .ensures) refl
 
 pub remove-spec : {M : Type 1} → statement M
 remove-spec =

@@ -1,9 +1,9 @@
--- `records::system_reset` meets its contract. Assumes nothing.
+-- `removals::system_reset` meets its contract. Assumes nothing.
 use Rattle.keeping.proofs.Rows.{kept-legal}
-use Rattle.records.proofs.TableAnswers.{restart-empties, reset}
+use Rattle.removals.proofs.Removals.{restart-empties, reset}
 use borrow.Author.Needs.{needs}
-use Rattle.records.proofs.system_reset.Statement.{statement}
-use Rattle.records.proofs.system_reset.Tie as tie
+use Rattle.removals.proofs.system_reset.Statement.{statement}
+use Rattle.removals.proofs.system_reset.Tie as tie
 
 pub system-reset-spec : {M : Type 1} → statement M
 system-reset-spec =

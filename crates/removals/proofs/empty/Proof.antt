@@ -1,8 +1,8 @@
--- `records::empty` meets its contract. Assumes nothing.
-use Rattle.records.proofs.TableAnswers.{bare-legal, emptied}
+-- `removals::empty` meets its contract. Assumes nothing.
+use Rattle.removals.proofs.Removals.{bare-legal, emptied}
 use borrow.Author.Needs.{needs}
-use Rattle.records.proofs.empty.Statement.{statement}
-use Rattle.records.proofs.empty.Tie as tie
+use Rattle.removals.proofs.empty.Statement.{statement}
+use Rattle.removals.proofs.empty.Tie as tie
 
 remove-first-requires : tie.Need-remove-first-requires
 remove-first-requires c κs =
