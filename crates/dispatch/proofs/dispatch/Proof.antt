@@ -1,8 +1,8 @@
--- `desk::dispatch` meets its contract. Assumes nothing.
-use Rattle.desk.proofs.Answers.{obeyed-of, sized-of}
+-- `dispatch::dispatch` meets its contract. Assumes nothing.
+use Rattle.dispatch.proofs.Answers.{obeyed-of, sized-of}
 use borrow.Author.Needs.{needs}
-use Rattle.desk.proofs.dispatch.Statement.{statement}
-use Rattle.desk.proofs.dispatch.Tie as tie
+use Rattle.dispatch.proofs.dispatch.Statement.{statement}
+use Rattle.dispatch.proofs.dispatch.Tie as tie
 
 pub dispatch-spec : {M : Type 1} → statement M
 dispatch-spec =

@@ -1,11 +1,11 @@
--- `desk::on_row` meets its contract: the row is lent, obeys and is back. Assumes nothing.
+-- `dispatch::on_row` meets its contract: the row is lent, obeys and is back. Assumes nothing.
 use native.Mathlib.Omega.{arith}
 use Rattle.octets.proofs.Each.{octets-each}
 use Rattle.keeping.proofs.Rows.{sound-size, lent-inside, lent-fit}
-use Rattle.desk.proofs.Answers.{row-obeyed}
+use Rattle.dispatch.proofs.Answers.{row-obeyed}
 use borrow.Author.Needs.{needs}
-use Rattle.desk.proofs.on_row.Statement.{statement}
-use Rattle.desk.proofs.on_row.Tie as tie
+use Rattle.dispatch.proofs.on_row.Statement.{statement}
+use Rattle.dispatch.proofs.on_row.Tie as tie
 
 obey-requires : tie.Need-obey-requires
 obey-requires c κs =

@@ -1,8 +1,8 @@
--- `desk::on_table` meets its contract: each by its command. Assumes nothing.
-use Rattle.desk.proofs.Answers.{obeyed-for, sized-two}
+-- `dispatch::on_table` meets its contract: each by its command. Assumes nothing.
+use Rattle.dispatch.proofs.Answers.{obeyed-for, sized-two}
 use borrow.Author.Needs.{needs}
-use Rattle.desk.proofs.on_table.Statement.{statement}
-use Rattle.desk.proofs.on_table.Tie as tie
+use Rattle.dispatch.proofs.on_table.Statement.{statement}
+use Rattle.dispatch.proofs.on_table.Tie as tie
 
 pub on-table-spec : {M : Type 1} → statement M
 on-table-spec =
