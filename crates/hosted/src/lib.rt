@@ -9,6 +9,7 @@
 //     write ROOM BLOCK                  the line of a record is written in a buffer with that room
 //     dump ROOM BLOCK                   the same, shown in hex
 //     both ROOM BLOCK                   the lines of two records are written
+use libc::STDIN_FILENO;
 use read::rest;
 use read::told_of;
 
@@ -56,4 +57,11 @@ pub fn play(script: &[u8], store: &mut [u8], out: &mut [u8]) {
         step(&script[start..end], store, out);
         at = end;
     }
+}
+
+// All steps of the script that stands on standard input.
+pub fn play_input(store: &mut [u8], out: &mut [u8]) {
+    let mut script = io::large_buffer();
+    let n = io::read_full(STDIN_FILENO, &mut script);
+    play(&script[..n], store, out);
 }

@@ -1,4 +1,4 @@
-// The commands that tell a desk's records: 0x22 the oldest of them, 0x31 how many and where the table begins.
+// The commands that tell of a desk's records: 0x22 sends the oldest, 0x31 the numbers of its table.
 use doings::Doing;
 use effects::Reply;
 use effects::plain;

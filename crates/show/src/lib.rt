@@ -14,6 +14,7 @@ use events::Answer;
 use frame::Advanced;
 use frame::Kind;
 use frame::Standard;
+use libc::STDIN_FILENO;
 use libc::STDOUT_FILENO;
 use rules::Seen;
 use seal::Sealed;
@@ -331,4 +332,11 @@ pub fn play(script: &[u8], store: &mut [u8], out: &mut [u8]) {
         step(&script[start..end], store, out);
         at = end;
     }
+}
+
+// All steps of the script that stands on standard input.
+pub fn play_input(store: &mut [u8], out: &mut [u8]) {
+    let mut script = io::large_buffer();
+    let n = io::read_full(STDIN_FILENO, &mut script);
+    play(&script[..n], store, out);
 }

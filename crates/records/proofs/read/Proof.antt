@@ -13,11 +13,6 @@ use Rattle.records.proofs.read.Tie as tie
 asked : (c : tie.Else1) → u16At 0 (c .before .before .before .before .before .args .body .now) ≡ 0 → ⊥
 asked c q = c .if1 .left (c .before .get16 .ensures ∙ q)
 
-held-requires : tie.Need-held-requires
-held-requires c κs =
-    let z = c .before .before .before .before .before .before in
-    (z .pre .0, z .pre .1)
-
 send-requires : tie.Need-send-requires
 send-requires c κs =
     let w = c .before in
@@ -51,6 +46,6 @@ returns-3 c =
 pub read-spec : {M : Type 1} → statement M
 read-spec =
     tie.close
-    (tie.spec (λ c κs. search needs) (λ c. search needs) (λ c κs. search needs) returns held-requires
+    (tie.spec (λ c κs. search needs) (λ c. search needs) (λ c κs. search needs) returns (λ c κs. search needs)
     (λ c κs. search needs) (λ c. search needs) returns-2 (λ c κs. search needs) send-requires (λ c. search needs)
     (λ c. search needs) returns-3)

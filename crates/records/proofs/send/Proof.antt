@@ -13,11 +13,6 @@ tell-records-requires c κs =
     let z = l .before .before .before .before in
     (z .pre .0, z .pre .1, omega (arith, l .least .ensures .1), omega (arith, l .before .most-sent .ensures .1, l .least .ensures .2, c .data-at .ensures .1))
 
-marks-of-requires : tie.Need-marks-of-requires
-marks-of-requires c κs =
-    let z = c .before .before .before .before .before .before .before .before .before .before .before in
-    (z .pre .0, z .pre .1)
-
 act-requires : tie.Need-act-requires
 act-requires c κs =
     let l = c .before .before .before .before .before .before .before .before .before .before in
@@ -39,6 +34,6 @@ returns c =
 pub send-spec : {M : Type 1} → statement M
 send-spec =
     tie.close
-    (tie.spec (λ c κs. search needs) (λ c κs. search needs) (λ c κs. search needs) tell-records-requires marks-of-requires
+    (tie.spec (λ c κs. search needs) (λ c κs. search needs) (λ c κs. search needs) tell-records-requires (λ c κs. search needs)
     (λ c κs. search needs) (λ c. search needs) act-requires (λ c. search needs) (λ c. search needs) (λ c. search needs)
     (λ c. search needs) returns)
