@@ -23,7 +23,7 @@ returns-2 c =
     let one = a .before .before .before .before .before in
     let z = one .before .before .before .before .before .before .before in (
       refl,
-      ends _ (z .args .p .written) _ _ _ (z .args .out .now) (a .answer .result) _ _ _ _ _ _ (omega (arith, one .if1 .left)) (c .start .ensures .state-is) (search needs)
+      ends _ (z .args .p .written) _ _ _ (z .args .out .now) (a .answer .result) _ _ _ _ _ _ (omega (arith, one .if1 .left)) (c .start .ensures .state-is) refl
           (omega (arith, z .pre .1)) (a .answer .ensures),
     )
 
