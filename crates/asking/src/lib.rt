@@ -8,7 +8,6 @@ use rules::control::Command;
 use rules::control::Known;
 use rules::control::RowCommand;
 use rules::control::TableCommand;
-use ruling::control;
 ghost use mathlib.Core.Path.{_≡_};
 ghost use mathlib.Core.Bool.{cond};
 ghost use Rattle.rules.specs.Control.{known};

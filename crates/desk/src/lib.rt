@@ -5,7 +5,6 @@ use effects::plain;
 use frame::Kind;
 use rules::control::Known;
 use rules::control::Terms;
-use ruling::control;
 ghost use mathlib.Core.Path.{_≡_};
 ghost use mathlib.Core.Bool.{true, not, _&&_};
 ghost use Prim.Native.Nat.{_≤_, _<_};

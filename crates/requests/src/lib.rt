@@ -5,7 +5,6 @@ use rules::control::Command;
 use rules::control::RowCommand;
 use rules::control::TableCommand;
 use rules::control::Terms;
-use ruling::control;
 ghost use mathlib.Core.Path.{_≡_};
 ghost use Rattle.rules.specs.Control.{termsOf};
 ghost use Rattle.requests.specs.Request.{commandOf, controlOf, needsLogin};

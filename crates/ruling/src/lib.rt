@@ -1,5 +1,5 @@
-// The rules that box and host side both compute: the command table, CFG-ADR's bits, what block 7 may hold, which numbers are desks, and
-// how many records a reply has room for.
+// The rules that box and host side both compute: CFG-ADR's bits, what block 7 may hold, which numbers are desks, and how many records a
+// reply has room for.
 use frame::Kind;
 ghost use mathlib.Core.Path.{_≡_};
 ghost use Prim.Native.Nat.{_≤_};
@@ -9,7 +9,6 @@ ghost use Rattle.rules.specs.Box.{noDesk};
 ghost use Rattle.rules.specs.Records.{mostSent, recordsFor};
 
 pub mod adr;
-pub mod control;
 
 // Whether a number names no desk.
 pub fn no_desk(n: u64) -> bool

@@ -1,9 +1,9 @@
--- `ruling::control::terms_of` meets its contract. Assumes nothing.
+-- `control::terms_of` meets its contract. Assumes nothing.
 use mathlib.Core.Path.{sym, ap, _∙_}
 use borrow.Author.Needs.{needs}
 use Rattle.rules.specs.Control.{termsOf}
-use Rattle.ruling.proofs.control.terms_of.Statement.{statement}
-use Rattle.ruling.proofs.control.terms_of.Tie as tie
+use Rattle.control.proofs.terms_of.Statement.{statement}
+use Rattle.control.proofs.terms_of.Tie as tie
 
 pub terms-of-spec : {M : Type 1} → statement M
 terms-of-spec =

@@ -1,4 +1,4 @@
--- `ruling::control::decide` meets its contract: a command's control byte finds its terms, and what is no command's finds none. Assumes nothing.
+-- `control::decide` meets its contract: a command's control byte finds its terms, and what is no command's finds none. Assumes nothing.
 use mathlib.Core.Path.{_≡_, sym, ap, _∙_}
 use Rattle.rules.specs.declared.control.RowCommand.the-variants.{Baud, Reset, ReadBlock, WriteBlock, SaveBlocks, RestoreBlocks, SetTimer, SendTimer, Login}
 use Rattle.rules.specs.declared.control.TableCommand.the-variants.{SystemReset, ReadRecords, SendTable, RemoveRecords, ClearRecords}
@@ -8,8 +8,8 @@ use Rattle.rules.specs.Control.{commands, knownIn, known}
 use Rattle.rules.proofs.Commands.{found}
 use Rattle.rules.proofs.Controls.{unlisted}
 use borrow.Author.Needs.{needs}
-use Rattle.ruling.proofs.control.decide.Statement.{statement}
-use Rattle.ruling.proofs.control.decide.Tie as tie
+use Rattle.control.proofs.decide.Statement.{statement}
+use Rattle.control.proofs.decide.Tie as tie
 
 none-of : (c : tie.At-match-rest) → known (c .before .args .control) ≡ Unknown
 unfolding commands

@@ -1,7 +1,0 @@
--- `ruling::control::on_row` meets its contract. Assumes nothing.
-use Rattle.rules.proofs.Controls.{listed}
-use Rattle.ruling.proofs.control.on_row.Statement.{statement}
-use Rattle.ruling.proofs.control.on_row.Tie as tie
-
-pub on-row-spec : {M : Type 1} → statement M
-on-row-spec = tie.close (tie.spec (λ c. listed _ _ _ _ (c .pre)))
