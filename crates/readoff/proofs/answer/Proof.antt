@@ -14,8 +14,8 @@ use Rattle.readoff.proofs.answer.Statement.{statement}
 use Rattle.readoff.proofs.answer.Tie as tie
 
 -- what is handed on is all that is held
-all-held : (c : tie.After-least) → take (c .least .result) (c .before .before .before .before .before .args .held .now) ≡ take (c .before .before .before .before .before .args .state .held) (c .before .before .before .before .before .args .held .now)
-all-held c = take-least _ _ _ (c .least .ensures .0)
+handed-on : (c : tie.After-least) → take (c .least .result) (c .before .before .before .before .before .args .held .now) ≡ take (c .before .before .before .before .before .args .state .held) (c .before .before .before .before .before .args .held .now)
+handed-on c = take-least _ _ _ (c .least .ensures .0)
 
 returns : tie.Need-returns
 returns c =
@@ -29,7 +29,7 @@ returns-2 c =
     let two = c .before .before .before .before .before .before .before .before .before .before .before in
     let a = two .before .before .before .before .before .before .before .args in
     read-whole _ _ _ _ _ _ _ (a .state) (a .held .now) (otherLine (take (two .before .before .least .result) (a .held .now)))
-    (reads-other (a .state) (a .held .now) (two .before .if1 .taken) (two .if2 .left) ∙ ap otherLine (sym (all-held (two .before .before))))
+    (reads-other (a .state) (a .held .now) (two .before .if1 .taken) (two .if2 .left) ∙ ap otherLine (sym (handed-on (two .before .before))))
     (c .before .before .before .before .before .before .other .ensures)
 
 returns-3 : tie.Need-returns-3
@@ -44,7 +44,7 @@ returns-4 c =
     let two = c .before .before .before .before .before .before .before .before .before .before .before in
     let a = two .before .before .before .before .before .before .before .args in
     read-whole _ _ _ _ _ _ _ (a .state) (a .held .now) (frame (octetsOf (take (two .before .before .least .result) (a .held .now))))
-    (reads-frame (a .state) (a .held .now) (two .before .if1 .left) (two .if3 .left) ∙ ap (λ (t : List ℕ). frame (octetsOf t)) (sym (all-held (two .before .before))))
+    (reads-frame (a .state) (a .held .now) (two .before .if1 .left) (two .if3 .left) ∙ ap (λ (t : List ℕ). frame (octetsOf t)) (sym (handed-on (two .before .before))))
     (c .before .before .before .before .before .before .framed .ensures)
 
 pub answer-spec : {M : Type 1} → statement M

@@ -1,6 +1,6 @@
 -- `removals::clear` meets its contract. Assumes nothing.
 use Rattle.keeping.proofs.Rows.{kept-legal}
-use Rattle.removals.proofs.Removals.{clear-empties, cleared}
+use Rattle.removals.proofs.Removals.{clear-empties, restart-empties, cleared}
 use borrow.Author.Needs.{needs}
 use Rattle.removals.proofs.clear.Statement.{statement}
 use Rattle.removals.proofs.clear.Tie as tie
@@ -9,6 +9,6 @@ pub clear-spec : {M : Type 1} → statement M
 clear-spec =
     tie.close
     (tie.spec
-    (λ c κs. let z = c .before .before in (z .pre .0, z .pre .1, clear-empties _ (kept-legal _ (z .pre .0) _ (z .pre .1))))
+    (λ c κs. let z = c .before .before in let legal = kept-legal _ (z .pre .0) _ (z .pre .1) in (z .pre .0, z .pre .1, search (clear-empties, restart-empties)))
     (λ c. search needs)
     (λ c. let x = c .before .before in let z = x .before .before .before in cleared _ (z .pre .0) _ (z .pre .1) _ _ (x .empty .ensures)))
