@@ -16,6 +16,11 @@ pub const DEFAULT_BLOCK_7: Block = [0x02, 0x20, 0x2C, 0x01, 0, 0, 0, 0, 0, 0, 0,
 /// let mut out = [0; 40];
 /// let line = depot::line(&depot::DEFAULT_BLOCK_7, &record, &mut out).unwrap();
 /// assert_eq!(line, b"E007000001645E37,010203E8\r\n");
+///
+/// // SEP-CHAR 0x08 is TAB, 0x09 as in ASCII: a spreadsheet opens UID and timer as two columns.
+/// let block = [0x02, 0x08, 0, 0x02, 0, 0, 0, 0, 0, 0, 0, 0, 0, 0];
+/// let line = depot::line(&block, &record, &mut out).unwrap();
+/// assert_eq!(line, b"E007000001645E37\t010203E8\n");
 /// ```
 pub fn line<'a>(block: &Block, record: &Record, out: &'a mut [u8]) -> Result<&'a [u8], Refusal> {
     let code = raw::line(block, &record.octets(), out);

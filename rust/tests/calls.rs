@@ -324,6 +324,21 @@ fn line_is_written() {
 }
 
 #[test]
+fn tab_is_that_of_ascii() {
+    let written = |between: [u8; 2], end: [u8; 2]| {
+        let mut block = DEFAULT_BLOCK_7;
+        (block[1], block[2], block[3], block[4]) = (between[0], between[1], end[0], end[1]);
+        let mut out = guard(40);
+        let code = raw::line(&block, &RECORD, &mut out);
+        wrote(code, &out).to_vec()
+    };
+    assert_eq!(written([0x08, 0], [0x02, 0]), b"E007000001645E37\t010203E8\n");
+    assert_eq!(written([0x20, 0], [0x08, 0]), b"E007000001645E37,010203E8\t");
+    // The user's octets stay, 0x07 among them.
+    assert_eq!(written([0x80, 0x07], [0x80, 0x07]), b"E007000001645E37\x07010203E8\x07");
+}
+
+#[test]
 fn line_refuses() {
     let refuses = |block: &[u8], record: &[u8], room, wanted| box_refuses(&[], room, wanted, |_, out| raw::line(block, record, out));
     refuses(&DEFAULT_BLOCK_7[..BLOCK_SIZE - 1], &RECORD, 40, Refusal::OutOfRange);

@@ -9,7 +9,7 @@ ghost use Rattle.rules.specs.Config.{lineLegal, blockSize};
 ghost use Rattle.rules.specs.Line.{shown, heading, markOf, separator, ending, line};
 ghost use Rattle.pieces.specs.Pieces.{Holds, shownWidth, widthOf};
 
-const TAB: u8 = 0x07;
+const TAB: u8 = 0x09;
 
 // The octets of a separator or an end: the first len.
 pub struct Mark {

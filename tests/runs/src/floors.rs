@@ -7,7 +7,7 @@ use second::situations::statuses;
 /// `(calls, call, outcomes)`: each outcome of that call is met at least once in so many calls. A run of fewer calls than that is
 /// not asked for it, so that a short run, as under valgrind, is asked for the frequent ones alone. The numbers leave room for
 /// chance: in sixty runs of 100000 calls the least count was at least twice the floor.
-const FLOORS: [(u64, &str, &[&str]); 36] = [
+const FLOORS: [(u64, &str, &[&str]); 40] = [
     (500, "history", &["0x80 answers 0x00", "0x81 answers 0x00", "0x22 answers 0x00", "done", "recorded"]),
     (1000, "history", &["0xA0 answers 0x00", "ignored"]),
     (5000, "history", &["0x80 answers 0x13", "0xA0 answers 0x14", "0x64 answers 0x00", "0x22 answers 0x93", "0x22 answers 0x94"]),
@@ -38,6 +38,10 @@ const FLOORS: [(u64, &str, &[&str]); 36] = [
     (5000, "line", &["refused 7"]),
     (2000, "lines", &["refused 6, a block of another length", "refused 6, data that no reply carries"]),
     (5000, "lines", &["written, no data"]),
+    (5000, "line", &["written, TAB between", "written, TAB as end"]),
+    (5000, "line", &["written, the user's 0x07 between", "written, the user's 0x07 as end"]),
+    (5000, "lines", &["written, TAB between", "written, TAB as end"]),
+    (RARE, "lines", &["written, the user's 0x07 between", "written, the user's 0x07 as end"]),
     (5000, "block", &["refused 7", "refused 8", "written"]),
     (5000, "timer", &["refused 7", "refused 8", "written"]),
     (5000, "sizes", &["refused 7", "refused 8", "written"]),

@@ -58,14 +58,15 @@ fn value(block7: &Block, octets: &[u8]) -> Vec<u8> {
     }
 }
 
-/// The octets that SEP-CHAR or END-CHAR choose. TAB is 0x07 in this paper.
+/// The octets that SEP-CHAR or END-CHAR choose. TAB is that of ASCII since
+/// request (iii); what the user gives is written as given.
 fn chosen(bits: u8, user: &[u8]) -> &[u8] {
     match bits {
         0x80 => user,
         0x40 => &[0x20],
         0x20 => &[0x2C],
         0x10 => &[0x3B],
-        0x08 => &[0x07],
+        0x08 => &[0x09],
         0x04 => &[0x0D],
         0x02 => &[0x0A],
         0x01 => &[0x0D, 0x0A],

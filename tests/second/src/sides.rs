@@ -2,7 +2,7 @@
 //! or damaged, the host's maker and reader, what data say, the line writer. One
 //! line a call.
 
-use crate::blocks::BLOCK_BYTES;
+use crate::blocks::{Block, BLOCK_BYTES};
 use crate::config_stories::any_block7;
 use crate::crc;
 use crate::data;
@@ -91,7 +91,7 @@ impl Sides {
     }
 
     fn line_writer(&mut self) -> String {
-        let block = any_block7(&mut self.gen);
+        let block = any_shape(&mut self.gen);
         let random = &self.gen.random;
         let mut out = [0xEE; 2200];
         let room = random.pick(&[random.below(90), 90, 2200]);
@@ -241,6 +241,20 @@ fn any_number(random: &Random) -> u64 {
         1 => random.pick(&[0, 1, 15, 16, 64, 0x87, 0xC0, 255, 256, 59999, 60000, 65535, 65536, 0xFFFF_FFFF, 1 << 32]),
         _ => random.next() >> random.below(64),
     }
+}
+
+/// A block 7 that often asks for TAB or for the user's octets, and these are
+/// often the bell and the tabulator.
+pub fn any_shape(gen: &mut Gen) -> Block {
+    let mut block = any_block7(gen);
+    let random = &gen.random;
+    for at in [1, 3].into_iter().filter(|_| random.one_in(3)) {
+        block[at] = random.pick(&[0x08, 0x80]);
+    }
+    for at in [2, 4, 5, 6].into_iter().filter(|_| random.one_in(2)) {
+        block[at] = random.pick(&[0x07, 0x09]);
+    }
+    block
 }
 
 pub fn any_request(gen: &mut Gen) -> Request {

@@ -26,12 +26,22 @@ fn framed(header: &[u8], separator: &[u8], end: &[u8]) -> Vec<u8> {
 
 #[test]
 fn separators_and_ends() {
-    let octets: [&[u8]; 8] = [b"\r\n", b"\n", b"\r", b"\x07", b";", b",", b" ", b"|"];
+    let octets: [&[u8]; 8] = [b"\r\n", b"\n", b"\r", b"\t", b";", b",", b" ", b"|"];
     for (bit, separator) in octets.iter().enumerate() {
         let made = raw(|block| (block[1], block[3]) = (1 << bit, 0));
         assert_eq!(made, framed(b"", separator, b""));
     }
-    assert_eq!(raw(|block| (block[1], block[3]) = (0, 8)), framed(b"", b"", b"\x07"));
+    assert_eq!(raw(|block| (block[1], block[3]) = (0, 8)), framed(b"", b"", b"\t"));
+}
+
+#[test]
+fn user_octets_stay() {
+    for octet in 0..=255 {
+        let between = raw(|block| (block[1], block[2], block[3]) = (0x80, octet, 0));
+        assert_eq!(between, framed(b"", &[octet], b""));
+        let end = raw(|block| (block[1], block[3], block[5], block[13]) = (0, 0x80, octet, 2));
+        assert_eq!(end, framed(b"", b"", &[b'x', octet]));
+    }
 }
 
 #[test]

@@ -8,14 +8,13 @@ use runs::floors::{answers, floors};
 use runs::guarded::Guarded;
 use runs::numbers;
 use second::blocks::{block7_legal, BLOCK_BYTES};
-use second::config_stories::any_block7;
 use second::data;
 use second::frame::Kind;
 use second::gen::Gen;
 use second::model::{DESKS, RECORD};
 use second::place::{self, REPLY_BUFFER};
 use second::random::Random;
-use second::sides::{any_data, any_desk, any_octet, any_place, any_records, any_reply, any_request, interesting, lock_twice, zeros};
+use second::sides::{any_data, any_desk, any_octet, any_place, any_records, any_reply, any_request, any_shape, interesting, lock_twice, zeros};
 use second::store::{load, SIZE};
 use second::tally::Tally;
 use std::hint::black_box;
@@ -187,15 +186,19 @@ impl Hostile {
     }
 
     fn line_writer(&mut self) {
-        let block = any_block7(&mut self.gen).to_vec();
+        let block = any_shape(&mut self.gen).to_vec();
         let random = &self.gen.random;
         let block = resized(random, block);
         let room = random.pick(&[40, 120, 120, 2100]);
         let out = random.octets(random.pick(&[random.below(room), room]));
-        self.tally.count(&match random.one_in(2) {
+        let met = match random.one_in(2) {
             true => one_line(random, &block, &out),
             false => many_lines(random, &block, &out),
-        });
+        };
+        if met.ends_with(": written") {
+            tabs(&block).for_each(|with| self.tally.count(&format!("{met}, {with}")));
+        }
+        self.tally.count(&met);
     }
 
     fn teller(&mut self) {
@@ -219,6 +222,18 @@ fn one_line(random: &Random, block: &[u8], out: &[u8]) -> String {
         _ => ", a block of another length",
     };
     format!("line: {}{why}", outcome(code))
+}
+
+/// Which of document 02 (iii) a written line shows.
+fn tabs(block: &[u8]) -> impl Iterator<Item = &'static str> {
+    let (between, end) = (&block[1..3], &block[3..5]);
+    let shown = [
+        (between[0] == 0x08, "TAB between"),
+        (end[0] == 0x08, "TAB as end"),
+        (between == [0x80, 0x07], "the user's 0x07 between"),
+        (end == [0x80, 0x07], "the user's 0x07 as end"),
+    ];
+    shown.into_iter().filter_map(|(shown, name)| shown.then_some(name))
 }
 
 fn many_lines(random: &Random, block: &[u8], out: &[u8]) -> String {

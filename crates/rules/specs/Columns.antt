@@ -1,0 +1,23 @@
+-- What a spreadsheet makes of scan lines: at each tabulator a new column begins. Assumes nothing.
+use Prim.Native.Nat.{ℕ}
+use mathlib.Core.Path.{_≡_}
+use mathlib.Core.Bool.{cond}
+use mathlib.Core.List.{List, [], _∷_, _++_}
+use lib.Dec.{eqb}
+use Rattle.octets.specs.Each.{All}
+
+-- that of ASCII
+abbrev pub tabulator : ℕ
+tabulator = 0x09
+
+-- the columns of a text that goes on with a column which is begun
+unfoldable pub columnsFrom : List ℕ → List ℕ → List (List ℕ)
+columnsFrom begun [] = begun ∷ []
+columnsFrom begun (c ∷ text) = cond (eqb c tabulator) (begun ∷ columnsFrom [] text) (columnsFrom (begun ++ (c ∷ [])) text)
+
+abbrev pub columns : List ℕ → List (List ℕ)
+columns = columnsFrom []
+
+-- no tabulator stands in it
+abbrev pub Unbroken : List ℕ → Type 0
+Unbroken = All (λ (c : ℕ). c ≡ tabulator → ⊥)
