@@ -11,12 +11,12 @@ abbrev pub tabulator : ℕ
 tabulator = 0x09
 
 -- the columns of a text that goes on with a column which is begun
-unfoldable pub columnsFrom : List ℕ → List ℕ → List (List ℕ)
-columnsFrom begun [] = begun ∷ []
-columnsFrom begun (c ∷ text) = cond (eqb c tabulator) (begun ∷ columnsFrom [] text) (columnsFrom (begun ++ (c ∷ [])) text)
+unfoldable pub inColumnsFrom : List ℕ → List ℕ → List (List ℕ)
+inColumnsFrom begun [] = begun ∷ []
+inColumnsFrom begun (c ∷ text) = cond (eqb c tabulator) (begun ∷ inColumnsFrom [] text) (inColumnsFrom (begun ++ (c ∷ [])) text)
 
-abbrev pub columns : List ℕ → List (List ℕ)
-columns = columnsFrom []
+abbrev pub inColumns : List ℕ → List (List ℕ)
+inColumns = inColumnsFrom []
 
 -- no tabulator stands in it
 abbrev pub Unbroken : List ℕ → Type 0
