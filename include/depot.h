@@ -230,7 +230,7 @@ uint64_t depot_record(const uint8_t *sent, size_t sent_len, size_t i, uint64_t *
  * Block 7 shapes a line: header, UID, separator, timer, end. The one bit that SEP-CHAR (byte 1) or END-CHAR (byte 3) may have set
  * says what is written there:
  *   0x80 the user's: byte 2, bytes 4 to 6   0x40 space   0x20 comma   0x10 semicolon
- *   0x08 TAB, 0x09 as in ASCII              0x04 CR      0x02 LF      0x01 CR and LF
+ *   0x08 TAB, 0x09 as in ASCII              0x04 CR      0x02 LF      0x01 CR and LF       no bit: nothing
  * A program that splits at TAB opens such lines as columns, if UID and timer are hex digits (DB-USE, byte 0, is 2): raw octets
  * may be 0x09 themselves.
  */

@@ -11,21 +11,24 @@ use lib.Dec.{ltb}
 use Rattle.octets.specs.Parts.{part}
 use Rattle.octets.proofs.Each.{all-append}
 use Rattle.rules.specs.Line.{tab, marks, markOf, digit, hex, shown, heading, separator, ending, line}
-use Rattle.rules.specs.Columns.{tabulator, inColumnsFrom, inColumns, Unbroken}
+use Rattle.rules.specs.Columns.{tabulator, inColumnsFrom, inColumns, Unbroken, uidDigits, timerDigits}
 
--- ---- a text without a tabulator is one column; where a tabulator follows, the next begins behind it
+-- ---- a text without a tabulator stays in the column that is begun
 
-stays-one : (begun text : List ℕ) → Unbroken text → inColumnsFrom begun text ≡ (begun ++ text) ∷ []
+goes-on : (begun text rest : List ℕ) → Unbroken text → inColumnsFrom begun (text ++ rest) ≡ inColumnsFrom (begun ++ text) rest
 unfolding inColumnsFrom
-stays-one begun [] u = ap (λ (c : List ℕ). c ∷ []) (sym (append-nil begun))
-stays-one begun (c ∷ text) u =
-    rw (ne-eqb c tabulator (u .0)) (stays-one (begun ++ (c ∷ [])) text (u .1) ∙ ap (λ (l : List ℕ). l ∷ []) (append-assoc begun (c ∷ []) text))
+goes-on begun [] rest u = ap (λ (b : List ℕ). inColumnsFrom b rest) (sym (append-nil begun))
+goes-on begun (c ∷ text) rest u =
+    rw (ne-eqb c tabulator (u .0)) (goes-on (begun ++ (c ∷ [])) text rest (u .1) ∙ ap (λ (b : List ℕ). inColumnsFrom b rest) (append-assoc begun (c ∷ []) text))
 
-next-begins : (begun text rest : List ℕ) → Unbroken text → inColumnsFrom begun (text ++ (tabulator ∷ rest)) ≡ (begun ++ text) ∷ inColumns rest
+-- so it is one column, and the first where a tabulator follows
+is-one : (text : List ℕ) → Unbroken text → inColumns text ≡ text ∷ []
 unfolding inColumnsFrom
-next-begins begun [] rest u = ap (λ (c : List ℕ). c ∷ inColumns rest) (sym (append-nil begun))
-next-begins begun (c ∷ text) rest u =
-    rw (ne-eqb c tabulator (u .0)) (next-begins (begun ++ (c ∷ [])) text rest (u .1) ∙ ap (λ (l : List ℕ). l ∷ inColumns rest) (append-assoc begun (c ∷ []) text))
+is-one text u = ap inColumns (sym (append-nil text)) ∙ goes-on [] text [] u
+
+is-first : (text rest : List ℕ) → Unbroken text → inColumns (text ++ (tabulator ∷ [] ++ rest)) ≡ text ∷ inColumns rest
+unfolding inColumnsFrom
+is-first text rest u = goes-on [] text (tabulator ∷ rest) u
 
 -- ---- hex digits hold none
 
@@ -46,30 +49,56 @@ hex-unbroken (b ∷ s) = (digit-unbroken (b / 16), (digit-unbroken (b % 16), hex
 and-hex : (text s : List ℕ) → Unbroken text → Unbroken (text ++ hex s)
 and-hex text s u = all-append _ text (hex s) u (hex-unbroken s)
 
--- ---- TAB in SEP-CHAR and in END-CHAR, UID and timer as hex digits
+-- ---- TAB in SEP-CHAR and in END-CHAR
 
--- as separator: what stands before it is a column, and what stands behind it the next
-pub tab-separates : (block r : List ℕ) → getD block 0 0 ≡ 2 → getD block 1 0 ≡ 0x08 → Unbroken (heading block) → Unbroken (ending block)
-    → inColumns (line block r) ≡ (heading block ++ hex (part 0 8 r)) ∷ (hex (part 8 4 r) ++ ending block) ∷ []
-unfolding line shown separator markOf marks tab trailingZeros
-tab-separates block r two bit h e =
-    let before = heading block ++ hex (part 0 8 r) in
-    let behind = hex (part 8 4 r) ++ ending block in
-    rw (two, bit)
-    (ap inColumns (append-assoc (before ++ (tabulator ∷ [])) (hex (part 8 4 r)) (ending block) ∙ append-assoc before (tabulator ∷ []) behind)
-    ∙ next-begins [] before behind (and-hex (heading block) (part 0 8 r) h)
-    ∙ ap (λ (cs : List (List ℕ)). before ∷ cs) (stays-one [] behind (all-append _ (hex (part 8 4 r)) (ending block) (hex-unbroken (part 8 4 r)) e)))
+tab-is : (char : ℕ) (user : List ℕ) → char ≡ 0x08 → markOf char user ≡ tabulator ∷ []
+unfolding markOf marks tab trailingZeros
+tab-is char user e = rw e refl
 
--- as end: the line is a column, and what follows it begins the next
-pub tab-ends : (block r rest : List ℕ) → getD block 0 0 ≡ 2 → getD block 3 0 ≡ 0x08 → Unbroken (heading block) → Unbroken (separator block)
-    → inColumns (line block r ++ rest) ≡ (heading block ++ hex (part 0 8 r) ++ separator block ++ hex (part 8 4 r)) ∷ inColumns rest
-unfolding line shown ending markOf marks tab trailingZeros
-tab-ends block r rest two bit h s =
-    let uid = heading block ++ hex (part 0 8 r) in
-    let before = uid ++ separator block ++ hex (part 8 4 r) in
-    rw (two, bit)
-    (ap inColumns (append-assoc before (tabulator ∷ []) rest)
-    ∙ next-begins [] before rest (and-hex (uid ++ separator block) (part 8 4 r) (all-append _ uid (separator block) (and-hex (heading block) (part 0 8 r) h) s)))
+-- DB-USE 2 writes hex digits, and the header has no tabulator
+module _ (block r : List ℕ) (digits : getD block 0 0 ≡ 2) (header : Unbroken (heading block)) where
+  uid-unbroken : Unbroken (heading block ++ uidDigits r)
+  uid-unbroken = and-hex (heading block) (part 0 8 r) header
+
+  -- as separator: what stands before it is a column, and what stands behind it begins the next
+  separated : getD block 1 0 ≡ 0x08 → (rest : List ℕ) → inColumns (line block r ++ rest) ≡ (heading block ++ uidDigits r) ∷ inColumns (timerDigits r ++ (ending block ++ rest))
+  unfolding line shown separator
+  separated bit rest =
+      let uid = heading block ++ uidDigits r in
+      let behind = timerDigits r ++ (ending block ++ rest) in
+      rw (digits, tab-is (getD block 1 0) (part 2 1 block) bit)
+      (ap inColumns
+      (append-assoc (uid ++ (tabulator ∷ []) ++ timerDigits r) (ending block) rest
+      ∙ append-assoc (uid ++ (tabulator ∷ [])) (timerDigits r) (ending block ++ rest)
+      ∙ append-assoc uid (tabulator ∷ []) behind)
+      ∙ is-first uid behind uid-unbroken)
+
+  -- so there are two
+  pub tab-separates : getD block 1 0 ≡ 0x08 → Unbroken (ending block) → inColumns (line block r) ≡ (heading block ++ uidDigits r) ∷ (timerDigits r ++ ending block) ∷ []
+  tab-separates bit end =
+      ap inColumns (sym (append-nil (line block r))) ∙ separated bit []
+      ∙ ap (λ (cs : List (List ℕ)). (heading block ++ uidDigits r) ∷ cs)
+      (ap (λ (l : List ℕ). inColumns (timerDigits r ++ l)) (append-nil (ending block))
+      ∙ is-one (timerDigits r ++ ending block) (all-append _ (timerDigits r) (ending block) (hex-unbroken (part 8 4 r)) end))
+
+  -- as end: the line is a column, and what follows it begins the next
+  pub tab-ends : getD block 3 0 ≡ 0x08 → Unbroken (separator block) → (rest : List ℕ)
+      → inColumns (line block r ++ rest) ≡ (heading block ++ uidDigits r ++ separator block ++ timerDigits r) ∷ inColumns rest
+  unfolding line shown ending
+  tab-ends bit sep rest =
+      let uid = heading block ++ uidDigits r in
+      let whole = uid ++ separator block ++ timerDigits r in
+      rw (digits, tab-is (getD block 3 0) _ bit)
+      (ap inColumns (append-assoc whole (tabulator ∷ []) rest)
+      ∙ is-first whole rest (and-hex (uid ++ separator block) (part 8 4 r) (all-append _ uid (separator block) uid-unbroken sep)))
+
+  -- as both: UID and timer are a column each, and what follows the line begins the next
+  pub tab-both : getD block 1 0 ≡ 0x08 → getD block 3 0 ≡ 0x08 → (rest : List ℕ) → inColumns (line block r ++ rest) ≡ (heading block ++ uidDigits r) ∷ timerDigits r ∷ inColumns rest
+  unfolding ending
+  tab-both sep end rest =
+      separated sep rest
+      ∙ ap (λ (cs : List (List ℕ)). (heading block ++ uidDigits r) ∷ cs)
+      (rw (tab-is (getD block 3 0) (part 4 _ block) end) (is-first (timerDigits r) rest (hex-unbroken (part 8 4 r))))
 
 -- the user's octets stay as they are, 0x07 among them
 pub user-stays : (user : List ℕ) → markOf 0x80 user ≡ user

@@ -5,6 +5,8 @@ use mathlib.Core.Bool.{cond}
 use mathlib.Core.List.{List, [], _∷_, _++_}
 use lib.Dec.{eqb}
 use Rattle.octets.specs.Each.{All}
+use Rattle.octets.specs.Parts.{part}
+use Rattle.rules.specs.Line.{hex}
 
 -- that of ASCII
 abbrev pub tabulator : ℕ
@@ -21,3 +23,10 @@ inColumns = inColumnsFrom []
 -- no tabulator stands in it
 abbrev pub Unbroken : List ℕ → Type 0
 Unbroken = All (λ (c : ℕ). c ≡ tabulator → ⊥)
+
+-- UID and timer of a record, as DB-USE 2 writes them
+abbrev pub uidDigits : List ℕ → List ℕ
+uidDigits r = hex (part 0 8 r)
+
+abbrev pub timerDigits : List ℕ → List ℕ
+timerDigits r = hex (part 8 4 r)

@@ -224,7 +224,7 @@ fn one_line(random: &Random, block: &[u8], out: &[u8]) -> String {
     format!("line: {}{why}", outcome(code))
 }
 
-/// Which of document 02 (iii) a written line shows.
+/// What a written line shows of document 02 (iii).
 fn tabs(block: &[u8]) -> impl Iterator<Item = &'static str> {
     let (between, end) = (&block[1..3], &block[3..5]);
     let shown = [
