@@ -1,5 +1,5 @@
 /*
- * A day at one desk: a login, a write, a read, sightings, and the records read back, told and printed as scan lines.
+ * A day at one desk: a login, a write, a read, sightings, the records read back, told and printed as scan lines, and a new password.
  * ./lib at the root builds and runs it; by hand:
  *     cc -Wall -Wextra -Iinclude examples/day.c target/staticlib/libdepot_c.a target/staticlib/libhost_c.a -o day
  */
@@ -72,6 +72,8 @@ int main(void)
 {
     /* Block 7 shapes a line: hex digits, a semicolon between UID and timer, LF, and four octets before it all. */
     static const uint8_t shape[DEPOT_BLOCK_SIZE] = { 2, 0x10, 0, 0x02, 0, 0, 0, 0, 'T', 'A', 'G', ' ', 0, 0x40 };
+    /* Block 0 begins with the password. */
+    static const uint8_t password[DEPOT_BLOCK_SIZE] = { 0x12, 0x34, 0x56, 0x78 };
     static const uint8_t none[1];
     uint8_t block[DEPOT_BLOCK_SIZE];
     uint8_t text[1024];
@@ -97,6 +99,13 @@ int main(void)
     stop_if_refused("lines", wrote);
     fwrite(text, 1, DEPOT_LENGTH(wrote), stdout);
     ask("remove", DEPOT_REMOVE_RECORDS, 0, none, 0);
+
+    /* A new password goes into EEPROM; into RAM it is turned down. RAM has the old one until a reset. */
+    ask("password into RAM", DEPOT_WRITE_BLOCK, 0, password, sizeof password);
+    ask("password into EEPROM", DEPOT_WRITE_BLOCK, DEPOT_EEPROM, password, sizeof password);
+    ask("reset", DEPOT_RESET, 0, none, 0);
+    ask("login", DEPOT_LOGIN, 0, none, 0);
+    ask("login", DEPOT_LOGIN, 0x12345678, none, 0);
 
     /* A refusal is a number, and nothing was written. */
     uint64_t refused = depot_make(DEPOT_ADVANCED, DESK, DEPOT_READ_RECORDS, 0, 0, 0, none, 0, text, sizeof text);

@@ -123,6 +123,15 @@ extern "C" {
 #define DEPOT_EEPROM 0x80         /* bit 7 of CFG-ADR: the EEPROM blocks, and not those in RAM */
 #define DEPOT_ALL_BLOCKS 0x40     /* bit 6 of CFG-ADR: all blocks, in 0x82 and 0x83 */
 
+/*
+ * A desk's password is bytes 0 to 3 of block 0 in its EEPROM, and RAM has a block 0 too.
+ * DEPOT_WRITE_BLOCK of block 0 without DEPOT_EEPROM is answered 0x16 and changes nothing: no login would look at it there.
+ * With DEPOT_EEPROM it is answered 0x00, and counts from the next login on. RAM then has the old password until a reset, and until
+ * that reset DEPOT_SAVE_BLOCKS of all blocks, or of block 0, PUTS THE OLD PASSWORD BACK. So after a new password: DEPOT_RESET.
+ * DEPOT_RESTORE_BLOCKS of all blocks, or of block 0, sets the password to zeros with DEPOT_EEPROM; without it RAM's block 0, which
+ * the next save of all blocks, or of block 0, makes the password.
+ */
+
 /* ---- the box */
 
 /*

@@ -1,7 +1,8 @@
-//! A day at one desk: a login, a write, a read, sightings, and the records read back, told and printed as scan lines.
+//! A day at one desk: a login, a write, a read, sightings, the records read back, told and printed as scan lines, and a new
+//! password.
 use std::num::NonZeroU8;
 
-use depot::{block, lines, records, sound, timer, Ask, Block, Desk, Kind, Refusal, Request, Store, Told, REPLY_SIZE};
+use depot::{block, lines, records, sound, timer, Ask, Block, Desk, Kind, Refusal, Request, Store, Told, EEPROM, REPLY_SIZE};
 
 /// Asks a desk: the request is made, handed to the box, and the reply is read.
 fn ask<'a>(store: &mut Store<Box<[u8]>>, desk: Desk, ask: Ask, reply: &'a mut [u8; REPLY_SIZE]) -> Result<Told<'a>, Refusal> {
@@ -48,6 +49,13 @@ fn main() -> Result<(), Refusal> {
 
     let removed = ask(&mut store, desk, Ask::RemoveRecords, &mut reply)?;
     println!("remove: status {:02X}", removed.status);
+
+    // A new password goes into EEPROM; into RAM it is turned down. RAM has the old one until a reset.
+    let password: Block = [0x12, 0x34, 0x56, 0x78, 0, 0, 0, 0, 0, 0, 0, 0, 0, 0];
+    let asks = [Ask::WriteBlock(0, password), Ask::WriteBlock(EEPROM, password), Ask::Reset, Ask::Login(0), Ask::Login(0x1234_5678)];
+    for (what, one) in ["password into RAM", "password into EEPROM", "reset", "login", "login"].iter().zip(asks) {
+        println!("{what}: status {:02X}", ask(&mut store, desk, one, &mut reply)?.status);
+    }
     let refused = ask(&mut store, desk, Ask::ReadRecords(0), &mut reply);
     println!("none asked: {}", refused.unwrap_err());
     println!("sound: {}", sound(store.octets()).is_ok());

@@ -19,7 +19,10 @@ pub enum Ask {
     Reset,
     SystemReset,
     ReadBlock(u8),
+    /// A desk's password is the first four bytes of block 0 in EEPROM. Block 0 without [`EEPROM`] is answered 0x16 and changes
+    /// nothing. With it the password counts from the next login on; RAM has the old one until [`Ask::Reset`].
     WriteBlock(u8, Block),
+    /// From RAM to EEPROM: of all blocks, or of block 0, it puts the old password back where no reset came since the new one.
     SaveBlocks(u8),
     RestoreBlocks(u8),
     SetTimer { hour: u8, minute: u8, milliseconds: u16 },

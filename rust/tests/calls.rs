@@ -202,6 +202,30 @@ fn read_tells_status_and_data() {
     assert_eq!(raw::read(q, wrote(code, &out)), TOLD + (0x13 << 24) + (6 << 16));
 }
 
+/// Document 02 (ix): the request is made, the box turns it down and changes nothing, and the reader takes 0x13 and 0x16 for it.
+#[test]
+fn no_password_into_ram() {
+    let write = |a| Asked { control: 0x81, a, bytes: &[0x12; BLOCK_SIZE], ..reset() };
+    let login = |a| Asked { control: 0xA0, a, ..reset() };
+    let mut s = fresh();
+    let mut told = |q: Asked| {
+        let (before, mut out) = (s.clone(), guard(REPLY_SIZE));
+        let code = raw::frame(&mut s, &made(q), &mut out);
+        let code = raw::read(q, wrote(code, &out));
+        ((code - TOLD - (4 << 16)) >> 24, s == before)
+    };
+    assert_eq!(told(write(0)), (0x13, true));
+    assert_eq!(told(login(0)), (0x00, false));
+    assert_eq!(told(write(0)), (0x16, true));
+    assert_eq!(told(write(0x80)), (0x00, false));
+    assert_eq!(told(login(0)), (0x14, false));
+    assert_eq!(told(login(0x1212_1212)), (0x00, false));
+    make_refuses(write(0x40), REPLY_SIZE, Refusal::OutOfRange);
+    let done = [0x06, 0x00, 0x81, 0x00, 0xAF, 0xDD];
+    refused(raw::read(write(0), &done), Refusal::NotTheReply);
+    assert_eq!(raw::read(write(0x80), &done), TOLD + (4 << 16));
+}
+
 #[test]
 fn read_refuses_in_rising_number() {
     let q = reset();

@@ -20,7 +20,7 @@ use Rattle.rows.proofs.Changes.{change-none}
 use Rattle.effects.specs.declared.Reply.{Reply}
 use Rattle.effects.specs.Obeyed.{Allowed, does, RowObeyed, RowQuiet}
 use Rattle.effects.proofs.Answers.{quiet}
-use Rattle.commands.specs.Ruled.{said, rowRuled}
+use Rattle.commands.specs.Ruled.{said, firstOf, rowRuled}
 
 -- all octets, as a part
 pub part-whole : (n : ℕ) (s : List ℕ) → length s ≡ n → part 0 n s ≡ s
@@ -46,9 +46,11 @@ module _ (c : RowCommand) (body : List ℕ) {r : Reply} {row out : List ℕ} {ki
   unfolding unless
   ruled-done {row′} {out′} q o = subst (λ (t : Option ℕ). RowObeyed kind (λ d. unless t d (does c body d)) r row row′ out out′) (sym q) o
 
-  pub ruled-refused : (status : ℕ) → first (rowTests c body) ≡ some status → Fit row → r ≡ record { status = status; len = 0 } → RowObeyed kind (rowRuled c body) r row row out out
+  -- the row is as it was
+  pub ruled-refused : {row′ : List ℕ} (status : ℕ) → first (rowTests c body) ≡ some status → Fit row → row′ ≡ row → r ≡ record { status = status; len = 0 }
+      → RowObeyed kind (rowRuled c body) r row row′ out out
   unfolding unless
-  ruled-refused status q fit p = quiet {answer = rowRuled c body} status (change-none row fit) p (λ rs. rw q) .obeyed kind out
+  ruled-refused status q fit same p = rw same (quiet {answer = rowRuled c body} status (change-none row fit) p (λ rs. rw q) .obeyed kind out)
 
 -- ---- the length of the data
 
@@ -70,6 +72,9 @@ unfolding first said
 one-test true = refl
 one-test false = refl
 
-pub second-test : (b u : Bool) → b ≡ true → first ((0x11, not b) ∷ (0x11, u) ∷ []) ≡ said (cond u 0x11 0)
-unfolding first
-second-test b u e = rw e (one-test u)
+-- of the three of a write, in their order
+pub three-tests : (a p u : Bool) → first ((0x11, a) ∷ (0x16, p) ∷ (0x11, u) ∷ []) ≡ said (firstOf (cond a 0x11 0) (firstOf (cond p 0x16 0) (cond u 0x11 0)))
+unfolding first said firstOf
+three-tests true p u = refl
+three-tests false true u = refl
+three-tests false false u = one-test u

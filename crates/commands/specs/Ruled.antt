@@ -14,5 +14,9 @@ use Rattle.effects.specs.Obeyed.{does}
 unfoldable pub said : ℕ → Option ℕ
 said status = cond (eqb status 0) none (some status)
 
+-- of two statuses the earlier, where it says that a test is given
+unfoldable pub firstOf : ℕ → ℕ → ℕ
+firstOf earlier later = cond (eqb earlier 0) later earlier
+
 abbrev pub rowRuled : RowCommand → List ℕ → Desk → Result
 rowRuled c body d = unless (first (rowTests c body)) d (does c body d)

@@ -4,6 +4,7 @@ use ruling::adr::block_of;
 use ruling::adr::in_eeprom;
 use ruling::adr::names_one;
 use ruling::adr::names_some;
+use ruling::adr::password_in_ram;
 ghost use mathlib.Core.Path.{_≡_};
 ghost use mathlib.Core.Bool.{true, cond, not, _&&_};
 ghost use Prim.Native.Nat.{_+_, _≤_};
@@ -15,13 +16,20 @@ ghost use Rattle.rules.specs.declared.control.RowCommand.{RowCommand};
 ghost use Rattle.rules.specs.Config.{blockSize, lineLegal};
 ghost use Rattle.rules.specs.Control.{sizedFor};
 ghost use Rattle.rules.specs.Command.{rowTests};
-ghost use Rattle.commands.specs.Ruled.{said};
+ghost use Rattle.commands.specs.Ruled.{said, firstOf};
 
-// 0x11 where the data are wrong.
-fn given(wrong: bool) -> u8
-    ensures { λ r. ⌜ r ≡ cond wrong 0x11 0 ⌝ }
+// The status of a test that is given.
+fn given(status: u8, wrong: bool) -> u8
+    ensures { λ r. ⌜ r ≡ cond wrong status 0 ⌝ }
 {
-    if wrong { 0x11 } else { 0 }
+    if wrong { status } else { 0 }
+}
+
+// The first of two tests that is given.
+fn first_of(earlier: u8, later: u8) -> u8
+    ensures { λ r. ⌜ r ≡ firstOf earlier later ⌝ }
+{
+    if earlier == 0 { later } else { earlier }
 }
 
 // 0x80: one block is named, and it is not block 0.
@@ -50,16 +58,16 @@ fn unfit(k: usize, body: &[u8]) -> bool
     !ruling::shape_legal(body[1], body[2], body[4], body[14])
 }
 
-// 0x81: one block is named, and the bytes are fit for it.
+// 0x81: one block is named, it is no password into RAM, and the bytes are fit for it.
 fn of_write(body: &[u8]) -> u8
     requires { ⌜ length (now body) ≡ 1 + blockSize ⌝ }
     ensures { λ r. ⌜ first (rowTests RowCommand.WriteBlock (now (body .entry))) ≡ said r ⌝ }
 {
     let adr = body[0];
-    if !names_one(adr) {
-        return 0x11;
-    }
-    given(unfit(block_of(adr), body))
+    let address = given(0x11, !names_one(adr));
+    let password = given(0x16, password_in_ram(adr));
+    let bytes = given(0x11, unfit(block_of(adr), body));
+    first_of(address, first_of(password, bytes))
 }
 
 // 0x82: RAM, and a block or all are named.
@@ -71,7 +79,7 @@ fn of_save(body: &[u8]) -> u8
     if in_eeprom(adr) {
         return 0x11;
     }
-    given(!names_some(adr))
+    given(0x11, !names_some(adr))
 }
 
 pub fn own_tests(command: RowCommand, body: &[u8]) -> u8
@@ -79,13 +87,13 @@ pub fn own_tests(command: RowCommand, body: &[u8]) -> u8
     ensures { λ r. ⌜ first (rowTests command (now (body .entry))) ≡ said r ⌝ }
 {
     match command {
-        RowCommand::Baud => given(body[0] != 0),
+        RowCommand::Baud => given(0x11, body[0] != 0),
         RowCommand::Reset => 0,
         RowCommand::ReadBlock => of_read(body),
         RowCommand::WriteBlock => of_write(body),
         RowCommand::SaveBlocks => of_save(body),
-        RowCommand::RestoreBlocks => given(!names_some(body[0])),
-        RowCommand::SetTimer => given(!timer::legal(timer::read(body, 0))),
+        RowCommand::RestoreBlocks => given(0x11, !names_some(body[0])),
+        RowCommand::SetTimer => given(0x11, !timer::legal(timer::read(body, 0))),
         RowCommand::SendTimer => 0,
         RowCommand::Login => 0,
     }

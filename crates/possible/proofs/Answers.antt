@@ -18,13 +18,15 @@ use Rattle.timer.proofs.ReadBack.{timer-length}
 use Rattle.frame.specs.declared.Kind.{Kind}
 use Rattle.frame.specs.declared.Kind.the-variants.{Standard, Advanced}
 use Rattle.table.specs.Entries.{recordWidth, share, desks}
-use Rattle.rules.specs.Config.{inEeprom, blockOf, namesOne, namesSome, lineLegal, blockSize}
+use Rattle.rules.specs.Config.{inEeprom, blockOf, namesOne, namesSome, passwordInRam, lineLegal, blockSize}
 use Rattle.rules.specs.Desk.{Desk, Table, memoryOf}
 use Rattle.rules.specs.Records.{mostSent, goes, readStatus, counted}
 use Rattle.rules.specs.Command.{rowTests, tableTests, Result, result, done, rowEffect, tableEffect, unless, passwordIs}
 use Rattle.rules.proofs.Facts.{TableLegal, RecordLegal, DeskLegal}
 use Rattle.rules.proofs.Memories.{length-block}
 use Rattle.rules.proofs.Desks.{memory-of, names-one}
+use Rattle.rules.proofs.Computed.{computed}
+use Rattle.rules.proofs.Passwords.{not-of-block-7}
 use Rattle.requests.specs.declared.Ask.{Ask}
 use Rattle.requests.specs.declared.Ask.the-variants.{Baud, Reset, SystemReset, ReadBlock, WriteBlock, SaveBlocks, RestoreBlocks, SetTimer, SendTimer, Login, ReadRecords, SendTable, RemoveRecords, ClearRecords}
 use Rattle.requests.specs.declared.Request.{Request}
@@ -83,12 +85,6 @@ module _ (d : Desk) (r : Result) (may : ℕ → ℕ → Bool) where
   one-test true h = refl
   one-test false h = h refl
 
-  two-tests : (a b : Bool) → (a || b ≡ false → may (r .status) (length (r .sent)) ≡ true)
-      → says (a || b) may (unless (cond a (some 0x11) (cond b (some 0x11) none)) d r) ≡ true
-  unfolding unless result plain pair
-  two-tests true b h = refl
-  two-tests false b h = one-test b h
-
   -- the second test gives another status
   other-test : (a b : Bool) (n : ℕ) → (b ≡ true → may n 0 ≡ true) → (a ≡ false → b ≡ false → may (r .status) (length (r .sent)) ≡ true)
       → says a may (unless (cond a (some 0x11) (cond b (some n) none)) d r) ≡ true
@@ -96,6 +92,14 @@ module _ (d : Desk) (r : Result) (may : ℕ → ℕ → Bool) where
   other-test true b n e h = refl
   other-test false true n e h = e refl
   other-test false false n e h = h refl refl
+
+  -- so does the one between two of 0x11, and never where the last is given
+  between : (a b c : Bool) (n : ℕ) → (b ≡ true → c ≡ false) → (b ≡ true → may n 0 ≡ true) → (b ≡ false → may (r .status) (length (r .sent)) ≡ true)
+      → says (a || c) may (unless (cond a (some 0x11) (cond b (some n) (cond c (some 0x11) none))) d r) ≡ true
+  unfolding unless result plain pair
+  between true b c n f e h = refl
+  between false true c n f e h = rw (f refl) (e refl)
+  between false false c n f e h = one-test c (λ z. h refl)
 
 or-second : (a b : Bool) → b ≡ true → a || b ≡ true
 or-second true b e = refl
@@ -119,7 +123,9 @@ module _ (kind : Kind) (desk : ℕ) (bytes : List ℕ) (d : Desk) (p : DeskLegal
   own-may (ReadBlock adr) f =
       other-test d _ (allowed kind (ReadBlock adr)) (not (namesOne adr)) (eqb (blockOf adr) 0) 0x15 (λ e. rw e)
       (λ e z. rw (z, length-block (memoryOf (inEeprom adr) d) (memory-of d p (inEeprom adr)) (blockOf adr) (names-one adr (not-false (namesOne adr) e))))
-  own-may (WriteBlock adr) f = two-tests d _ (plain 0x00) (not (namesOne adr)) (eqb (blockOf adr) 7 && not (lineLegal bytes)) (λ e. refl)
+  own-may (WriteBlock adr) f =
+      between d _ (allowed kind (WriteBlock adr)) (not (namesOne adr)) (passwordInRam adr) (eqb (blockOf adr) 7 && not (lineLegal bytes)) 0x16
+      (not-of-block-7 adr (not (lineLegal bytes))) (λ e. rw e) (λ e. rw e)
   own-may (SaveBlocks adr) f = one-test d _ (plain 0x00) (inEeprom adr || not (namesSome adr)) (λ e. refl)
   own-may (RestoreBlocks adr) f = one-test d _ (plain 0x00) (not (namesSome adr)) (λ e. refl)
   own-may (SetTimer h m ms) f = one-test d _ (plain 0x00) (not (timerLegal (timerFrom (bodyOf (SetTimer h m ms) bytes)))) (λ e. refl)
@@ -157,3 +163,10 @@ pub answer-possible : (q : Request) (d : Desk) → DeskLegal d → length (q .by
     → possible q (answerTo q d .status) (length (answerTo q d .sent)) ≡ true
 unfolding possible
 answer-possible q d p size low held = rw (lt-leb desks (q .desk) low, held) (may-answer q d p size held (needsLogin (q .ask) && not (d .loggedIn)) refl)
+
+-- document 02 (ix): to a password into RAM 0x13 and 0x16 alone, and so 0x00 no more
+pub password-answers : (kind : Kind) (desk : ℕ) (bytes : List ℕ) → length bytes ≡ blockSize → desk < desks → (status len : ℕ)
+    → possible (record { kind = kind; desk = desk; ask = WriteBlock 0x00; bytes = bytes }) status len ≡ plain 0x13 status len || plain 0x16 status len
+unfolding possible mayAnswer computed
+password-answers kind desk bytes size low status len =
+    rw (lt-leb desks desk low, denied-is (record { kind = kind; desk = desk; ask = WriteBlock 0x00; bytes = bytes }) size) refl

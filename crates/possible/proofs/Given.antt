@@ -11,7 +11,7 @@ use Rattle.octets.specs.Numbers.{octets}
 use Rattle.octets.proofs.Tests.{and-left, and-right, both}
 use Rattle.frame.specs.declared.Kind.{Kind}
 use Rattle.table.specs.Entries.{recordWidth, share}
-use Rattle.rules.specs.Config.{blockOf, blockSize}
+use Rattle.rules.specs.Config.{blockOf, blockSize, passwordInRam}
 use Rattle.rules.specs.Desk.{Desk, freshDesk, withLogin, withTable}
 use Rattle.rules.specs.Records.{mostSent, recordsFor}
 use Rattle.rules.specs.Command.{Result, result, passwordIs}
@@ -91,6 +91,12 @@ module _ (kind : Kind) (desk : ℕ) (bytes : List ℕ) (size : length bytes ≡ 
   block-given adr true z = one-given (ReadBlock adr) 0x15 0 (λ s l. rw z)
   block-given adr false z = one-given (ReadBlock adr) 0x00 blockSize (λ s l. rw z)
 
+  write-given : (adr : ℕ) (b : Bool) → passwordInRam adr ≡ b → fieldsHold (WriteBlock adr) ≡ true → denied (asking kind desk bytes (WriteBlock adr)) ≡ false
+      → allowed kind (WriteBlock adr) status len ≡ true → Given (asking kind desk bytes (WriteBlock adr)) status len
+  unfolding plain
+  write-given adr true z = one-given (WriteBlock adr) 0x16 0 (λ s l. rw z)
+  write-given adr false z = one-given (WriteBlock adr) 0x00 0 (λ s l. rw z)
+
   -- a login: the right password, or another
   login-given : (password x : ℕ) (b : Bool) → passwordIs (octets 4 password) (witness x 0 false) ≡ b → plain (cond b 0x00 0x14) status len ≡ true
       → Given (asking kind desk bytes (Login password)) status len
@@ -168,7 +174,7 @@ module _ (kind : Kind) (desk : ℕ) (bytes : List ℕ) (size : length bytes ≡ 
   allowed-given Reset = one-given kind desk bytes size status len Reset 0x00 0 (λ s l. refl)
   allowed-given SystemReset = one-given kind desk bytes size status len SystemReset 0x00 0 (λ s l. refl)
   allowed-given (ReadBlock adr) = block-given kind desk bytes size status len adr (eqb (blockOf adr) 0) refl
-  allowed-given (WriteBlock adr) = one-given kind desk bytes size status len (WriteBlock adr) 0x00 0 (λ s l. refl)
+  allowed-given (WriteBlock adr) = write-given kind desk bytes size status len adr (passwordInRam adr) refl
   allowed-given (SaveBlocks adr) = one-given kind desk bytes size status len (SaveBlocks adr) 0x00 0 (λ s l. refl)
   allowed-given (RestoreBlocks adr) = one-given kind desk bytes size status len (RestoreBlocks adr) 0x00 0 (λ s l. refl)
   allowed-given (SetTimer h m ms) = one-given kind desk bytes size status len (SetTimer h m ms) 0x00 0 (λ s l. refl)

@@ -4,7 +4,7 @@ use mathlib.Core.Bool.{Bool, cond, not, _&&_, _||_}
 use lib.Dec.{eqb, ltb, leb}
 use Rattle.frame.specs.declared.Kind.{Kind}
 use Rattle.table.specs.Entries.{recordWidth, share}
-use Rattle.rules.specs.Config.{blockOf, blockSize}
+use Rattle.rules.specs.Config.{blockOf, blockSize, passwordInRam}
 use Rattle.rules.specs.Records.{mostSent, recordsFor}
 use Rattle.rules.specs.Box.{noDesk}
 use Rattle.requests.specs.declared.Ask.{Ask}
@@ -40,7 +40,7 @@ allowed kind (Baud n) status len = plain 0x00 status len
 allowed kind Reset status len = plain 0x00 status len
 allowed kind SystemReset status len = plain 0x00 status len
 allowed kind (ReadBlock adr) status len = cond (eqb (blockOf adr) 0) (plain 0x15 status len) (pair 0x00 blockSize status len)
-allowed kind (WriteBlock adr) status len = plain 0x00 status len
+allowed kind (WriteBlock adr) status len = cond (passwordInRam adr) (plain 0x16 status len) (plain 0x00 status len)
 allowed kind (SaveBlocks adr) status len = plain 0x00 status len
 allowed kind (RestoreBlocks adr) status len = plain 0x00 status len
 allowed kind (SetTimer h m ms) status len = plain 0x00 status len

@@ -7,6 +7,7 @@ use requests::range::fields_hold;
 use requests::range::is_denied;
 use rules::BLOCK;
 use ruling::adr::block_of;
+use ruling::adr::password_in_ram;
 use ruling::most_sent;
 use ruling::no_desk;
 use ruling::records_for;
@@ -15,7 +16,7 @@ ghost use mathlib.Core.Bool.{true, cond, _&&_, _||_};
 ghost use Prim.Native.Nat.{_<_, min};
 ghost use lib.Dec.{eqb};
 ghost use Rattle.table.specs.Entries.{share};
-ghost use Rattle.rules.specs.Config.{blockOf, blockSize};
+ghost use Rattle.rules.specs.Config.{blockOf, blockSize, passwordInRam};
 ghost use Rattle.requests.specs.Request.{fieldsHold, needsLogin};
 ghost use Rattle.possible.specs.Possible.{pair, plain, statusMay, recordsMay, allowed, mayAnswer, possible};
 
@@ -108,6 +109,16 @@ fn block_may(adr: u8, status: u8, len: usize) -> bool
     is_pair(0x00, BLOCK, status, len)
 }
 
+// Whether 0x81 can answer so.
+fn write_may(adr: u8, status: u8, len: usize) -> bool
+    ensures { λ r. ⌜ r ≡ cond (passwordInRam adr) (plain 0x16 status len) (plain 0x00 status len) ⌝ }
+{
+    if password_in_ram(adr) {
+        return is_plain(0x16, status, len);
+    }
+    is_plain(0x00, status, len)
+}
+
 // Whether 0xA0 can answer so.
 fn login_may(status: u8, len: usize) -> bool
     ensures { λ r. ⌜ r ≡ (plain 0x00 status len || plain 0x14 status len) ⌝ }
@@ -128,7 +139,7 @@ fn is_allowed(kind: Kind, ask: Ask, status: u8, len: usize) -> bool
         Ask::Reset => is_plain(0x00, status, len),
         Ask::SystemReset => is_plain(0x00, status, len),
         Ask::ReadBlock(adr) => block_may(adr as u8, status, len),
-        Ask::WriteBlock(adr) => is_plain(0x00, status, len),
+        Ask::WriteBlock(adr) => write_may(adr as u8, status, len),
         Ask::SaveBlocks(adr) => is_plain(0x00, status, len),
         Ask::RestoreBlocks(adr) => is_plain(0x00, status, len),
         Ask::SetTimer(h, m, ms) => is_plain(0x00, status, len),

@@ -10,14 +10,16 @@ use Rattle.octets.specs.Tests.{first}
 use Rattle.octets.specs.Numbers.{octets, u16At}
 use Rattle.timer.specs.Clock.{timerLegal, timerFrom}
 use Rattle.frame.specs.declared.Kind.{Kind}
-use Rattle.rules.specs.Config.{blockSize, inEeprom, blockOf, namesOne, namesSome, lineLegal}
+use Rattle.rules.specs.Config.{blockSize, inEeprom, blockOf, namesOne, namesSome, passwordInRam, lineLegal}
 use Rattle.rules.specs.Desk.{Desk, withLogin}
 use Rattle.rules.specs.Command.{rowTests, tableTests, Result, result, done, rowEffect, tableEffect, unless, passwordIs}
 use Rattle.rules.specs.Records.{goes, readStatus}
+use Rattle.rules.proofs.Computed.{computed}
+use Rattle.rules.proofs.Passwords.{not-of-block-7}
 use Rattle.requests.specs.declared.Ask.{Ask}
 use Rattle.requests.specs.declared.Ask.the-variants.{Baud, Reset, SystemReset, ReadBlock, WriteBlock, SaveBlocks, RestoreBlocks, SetTimer, SendTimer, Login, ReadRecords, SendTable, RemoveRecords, ClearRecords}
 use Rattle.requests.specs.declared.Request.{Request}
-use Rattle.requests.specs.Request.{bodyOf, openDesk, denied, needsLogin}
+use Rattle.requests.specs.Request.{bodyOf, openDesk, denied, inRange, needsLogin}
 use Rattle.requests.proofs.Asked.{answerTo, ownAnswer, asked-open}
 
 -- the values that are out of range
@@ -40,16 +42,11 @@ unfit ClearRecords bytes = false
 is11 : Result → Bool
 is11 r = eqb (r .status) 0x11
 
--- one test that gives 0x11, and two
+-- one test that gives 0x11
 one-test : (b : Bool) (d : Desk) (r : Result) → is11 r ≡ false → is11 (unless (cond b (some 0x11) none) d r) ≡ b
 unfolding is11 unless result
 one-test true d r e = refl
 one-test false d r e = e
-
-two-tests : (a b : Bool) (d : Desk) (r : Result) → is11 r ≡ false → is11 (unless (cond a (some 0x11) (cond b (some 0x11) none)) d r) ≡ a || b
-unfolding is11 unless result
-two-tests true b d r e = refl
-two-tests false b d r e = one-test b d r e
 
 -- one that gives 0x11, and one after it that gives another status
 other-test : (a b : Bool) (n : ℕ) (d : Desk) (r : Result) → eqb n 0x11 ≡ false → is11 r ≡ false → is11 (unless (cond a (some 0x11) (cond b (some n) none)) d r) ≡ a
@@ -57,6 +54,14 @@ unfolding is11 unless result
 other-test true b n d r e f = refl
 other-test false true n d r e f = e
 other-test false false n d r e f = f
+
+-- two that give 0x11, and between them one that gives another status, never where the last is given
+between : (a b c : Bool) (n : ℕ) (d : Desk) (r : Result) → eqb n 0x11 ≡ false → (b ≡ true → c ≡ false) → is11 r ≡ false
+    → is11 (unless (cond a (some 0x11) (cond b (some n) (cond c (some 0x11) none))) d r) ≡ a || c
+unfolding is11 unless result
+between true b c n d r e f g = refl
+between false true c n d r e f g = e ∙ sym (f refl)
+between false false c n d r e f g = one-test c d r g
 
 cond-not : (b : Bool) (x y : ℕ) → eqb x 0x11 ≡ false → eqb y 0x11 ≡ false → eqb (cond b x y) 0x11 ≡ false
 cond-not true x y p q = p
@@ -74,7 +79,8 @@ module _ (kind : Kind) (bytes : List ℕ) (d : Desk) where
   own-11 desk Reset = refl
   own-11 desk SystemReset = refl
   own-11 desk (ReadBlock adr) = other-test (not (namesOne adr)) (eqb (blockOf adr) 0) 0x15 d _ refl refl
-  own-11 desk (WriteBlock adr) = two-tests (not (namesOne adr)) (eqb (blockOf adr) 7 && not (lineLegal bytes)) d _ refl
+  own-11 desk (WriteBlock adr) =
+      between (not (namesOne adr)) (passwordInRam adr) (eqb (blockOf adr) 7 && not (lineLegal bytes)) 0x16 d _ refl (not-of-block-7 adr (not (lineLegal bytes))) refl
   own-11 desk (SaveBlocks adr) = one-test (inEeprom adr || not (namesSome adr)) d _ refl
   own-11 desk (RestoreBlocks adr) = one-test (not (namesSome adr)) d _ refl
   own-11 desk (SetTimer h m ms) = one-test (not (timerLegal (timerFrom (bodyOf (SetTimer h m ms) bytes)))) d _ refl
@@ -108,3 +114,9 @@ denied-everywhere q d size e = denied-at q d size e ∙ sym (denied-is q size)
 -- what is asked is known
 pub denied-as : (q : Request) (a : Ask) → length (q .bytes) ≡ blockSize → q .ask ≡ a → unfit a (q .bytes) ≡ denied q
 denied-as q a size e = ap (λ (x : Ask). unfit x (q .bytes)) (sym e) ∙ sym (denied-is q size)
+
+-- document 02 (ix): a password into RAM is in range, since no desk answers it 0x11
+pub password-in-range : (kind : Kind) (desk : ℕ) (bytes : List ℕ) → length bytes ≡ blockSize
+    → inRange (record { kind = kind; desk = desk; ask = WriteBlock 0x00; bytes = bytes }) ≡ true
+unfolding inRange computed
+password-in-range kind desk bytes size = rw (denied-is (record { kind = kind; desk = desk; ask = WriteBlock 0x00; bytes = bytes }) size) refl

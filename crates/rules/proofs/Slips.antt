@@ -16,13 +16,13 @@ use Rattle.rules.specs.Box.{Event, frame, sighting, tick, Answer, reply,
 use Rattle.rules.proofs.Computed.{computed}
 
 -- a request to desk 0 in a standard frame, with room for the reply; and the reply with its status and data
-abbrev ask : ℕ → List ℕ → Event
+abbrev pub ask : ℕ → List ℕ → Event
 ask control body = frame (frameOf Standard 0 control body) replyRoom
 
-abbrev told : ℕ → ℕ → List ℕ → Answer
+abbrev pub told : ℕ → ℕ → List ℕ → Answer
 told control status sent = reply (frameOf Standard 0 control (status ∷ sent))
 
-abbrev zeros : ℕ → List ℕ
+abbrev pub zeros : ℕ → List ℕ
 zeros n = replicate n 0
 
 -- a tag that is locked at one desk is recorded at another
@@ -30,12 +30,12 @@ pub lock-of-a-desk : run freshBox (sighting 0 7 1 ∷ sighting 1 7 1 ∷ sightin
 unfolding computed
 lock-of-a-desk = refl
 
--- a password written to RAM and not saved locks nobody out; saved, it counts
-pub unsaved-password :
-    run freshBox (ask 0xA0 (zeros 4) ∷ ask 0x81 (0x00 ∷ 1 ∷ 2 ∷ 3 ∷ 4 ∷ zeros 10) ∷ ask 0xA0 (zeros 4) ∷ ask 0x82 (0x00 ∷ []) ∷ ask 0xA0 (zeros 4) ∷ ask 0xA0 (1 ∷ 2 ∷ 3 ∷ 4 ∷ []) ∷ [])
-    ≡ told 0xA0 0x00 [] ∷ told 0x81 0x00 [] ∷ told 0xA0 0x00 [] ∷ told 0x82 0x00 [] ∷ told 0xA0 0x14 [] ∷ told 0xA0 0x00 [] ∷ []
+-- a password written to EEPROM counts at the next login, though RAM has the old one until a reset
+pub password-of-eeprom :
+    run freshBox (ask 0xA0 (zeros 4) ∷ ask 0x81 (0x80 ∷ 1 ∷ 2 ∷ 3 ∷ 4 ∷ zeros 10) ∷ ask 0xA0 (zeros 4) ∷ ask 0xA0 (1 ∷ 2 ∷ 3 ∷ 4 ∷ []) ∷ [])
+    ≡ told 0xA0 0x00 [] ∷ told 0x81 0x00 [] ∷ told 0xA0 0x14 [] ∷ told 0xA0 0x00 [] ∷ []
 unfolding computed
-unsaved-password = refl
+password-of-eeprom = refl
 
 -- VALID-TIME 1 written to EEPROM: a lock still lasts 55 ticks; after 0x63 one tick
 pub valid-time-at-reset :

@@ -1,9 +1,10 @@
--- A configuration write is accepted exactly when length, login, block and block contents are legal; it alters the fourteen octets of
--- that block in the chosen memory and nothing else, and a write that is not accepted alters nothing. Assumes nothing.
+-- A configuration write is accepted exactly when length, login, block and block contents are legal and it is no password into RAM; it alters
+-- the fourteen octets of that block in the chosen memory and nothing else, and a write that is not accepted alters nothing. Assumes nothing.
 use mathlib.Core.Path.{_≡_, refl, ap}
 use Prim.Native.Nat.{ℕ, _<_}
-use mathlib.Core.Bool.{Bool, true, false, not, _&&_, true≢false}
+use mathlib.Core.Bool.{Bool, true, false, cond, not, _&&_, true≢false}
 use mathlib.Core.List.{List, []}
+use mathlib.Core.Option.{some}
 use native.Mathlib.Omega.{arith}
 use lib.ListN.{length, drop, length-drop}
 use lib.Dec.{eqb}
@@ -13,7 +14,7 @@ use Rattle.octets.proofs.Tests.{and-left, and-right}
 use Rattle.frame.specs.declared.Kind.{Kind}
 use Rattle.rules.specs.declared.control.Command.the-variants.{OnRow}
 use Rattle.rules.specs.declared.control.RowCommand.the-variants.{WriteBlock}
-use Rattle.rules.specs.Config.{blockSize, blockCount, blockOf, namesOne, inEeprom, blockAt, written, lineLegal}
+use Rattle.rules.specs.Config.{blockSize, blockCount, blockOf, namesOne, passwordInRam, inEeprom, blockAt, written, lineLegal}
 use Rattle.rules.specs.Desk.{Desk, memoryOf}
 use Rattle.rules.specs.Control.{commands, knownIn, known, sizedFor}
 use Rattle.rules.specs.Command.{adrOf, Result, result, done, rowTests, rowEffect, tests, unless, obey, answered}
@@ -40,8 +41,9 @@ module _ (kind : Kind) (d : Desk) (body : List ℕ) where
       let login : d .loggedIn ≡ true = search (and-left, and-right) in
       let in′ : not (d .loggedIn) ≡ false = ap not login in
       let one : namesOne (adrOf body) ≡ true = search (and-left, and-right) in
+      let open′ : not (passwordInRam (adrOf body)) ≡ true = search (and-left, and-right) in
       let bytes : not (eqb (blockOf (adrOf body)) 7 && not (lineLegal (drop 1 body))) ≡ true = search (and-left, and-right) in
-      rw (size, in′, one, fits (eqb (blockOf (adrOf body)) 7 && not (lineLegal (drop 1 body))) bytes)
+      rw (size, in′, one, fits (passwordInRam (adrOf body)) open′, fits (eqb (blockOf (adrOf body)) 7 && not (lineLegal (drop 1 body))) bytes)
     where
       fits : (b : Bool) → not b ≡ true → b ≡ false
       fits true q = cc
@@ -50,15 +52,33 @@ module _ (kind : Kind) (d : Desk) (body : List ℕ) where
   pub write-turned : writeLegal d body ≡ false → Turned d (answered kind d 0x81 body)
   unfolding writeLegal answered known knownIn commands obey tests first rowTests unless
   write-turned e =
-      go (sizedFor (OnRow WriteBlock) body) (d .loggedIn) (namesOne (adrOf body)) (eqb (blockOf (adrOf body)) 7 && not (lineLegal (drop 1 body))) refl refl refl refl e
+      go (sizedFor (OnRow WriteBlock) body) (d .loggedIn) (namesOne (adrOf body)) (passwordInRam (adrOf body)) (eqb (blockOf (adrOf body)) 7 && not (lineLegal (drop 1 body)))
+      refl refl refl refl refl e
     where
-      go : (a b c x : Bool) → sizedFor (OnRow WriteBlock) body ≡ a → d .loggedIn ≡ b → namesOne (adrOf body) ≡ c → (eqb (blockOf (adrOf body)) 7 && not (lineLegal (drop 1 body))) ≡ x
-          → a && b && c && not x ≡ false → Turned d (answered kind d 0x81 body)
-      go false b c x p q r t n = rw p (turned d 0x81 (omega arith))
-      go true false c x p q r t n = let out : not (d .loggedIn) ≡ true = ap not q in rw (p, out) (turned d 0x13 (omega arith))
-      go true true false x p q r t n = let in′ : not (d .loggedIn) ≡ false = ap not q in rw (p, in′, r) (turned d 0x11 (omega arith))
-      go true true true true p q r t n = let in′ : not (d .loggedIn) ≡ false = ap not q in rw (p, in′, r, t) (turned d 0x11 (omega arith))
-      go true true true false p q r t n = absurd (true≢false n)
+      go : (a b c w x : Bool) → sizedFor (OnRow WriteBlock) body ≡ a → d .loggedIn ≡ b → namesOne (adrOf body) ≡ c → passwordInRam (adrOf body) ≡ w
+          → (eqb (blockOf (adrOf body)) 7 && not (lineLegal (drop 1 body))) ≡ x → a && b && c && not w && not x ≡ false → Turned d (answered kind d 0x81 body)
+      go false b c w x p q r s t n = rw p (turned d 0x81 (omega arith))
+      go true false c w x p q r s t n = let out : not (d .loggedIn) ≡ true = ap not q in rw (p, out) (turned d 0x13 (omega arith))
+      go true true false w x p q r s t n = let in′ : not (d .loggedIn) ≡ false = ap not q in rw (p, in′, r) (turned d 0x11 (omega arith))
+      go true true true true x p q r s t n = let in′ : not (d .loggedIn) ≡ false = ap not q in rw (p, in′, r, s) (turned d 0x16 (omega arith))
+      go true true true false true p q r s t n = let in′ : not (d .loggedIn) ≡ false = ap not q in rw (p, in′, r, s, t) (turned d 0x11 (omega arith))
+      go true true true false false p q r s t n = absurd (true≢false n)
+
+  -- of the listed length and turned down by its own rule: that status, or 0x13 where nobody is logged in
+  pub write-told : sizedFor (OnRow WriteBlock) body ≡ true → (status : ℕ) → first (rowTests WriteBlock body) ≡ some status
+      → answered kind d 0x81 body ≡ result (cond (d .loggedIn) status 0x13) [] d
+  unfolding answered known knownIn commands obey tests first unless
+  write-told size status e = go (d .loggedIn) refl
+    where
+      go : (b : Bool) → d .loggedIn ≡ b → answered kind d 0x81 body ≡ result (cond b status 0x13) [] d
+      go true q = let in′ : not (d .loggedIn) ≡ false = ap not q in rw (size, in′, e)
+      go false q = let out : not (d .loggedIn) ≡ true = ap not q in rw (size, out)
+
+  -- a password into RAM
+  pub write-protected : sizedFor (OnRow WriteBlock) body ≡ true → namesOne (adrOf body) ≡ true → passwordInRam (adrOf body) ≡ true
+      → answered kind d 0x81 body ≡ result (cond (d .loggedIn) 0x16 0x13) [] d
+  unfolding first rowTests
+  write-protected size one ram = write-told size 0x16 (rw (one, ram) refl)
 
   -- of an accepted write: the named block holds the bytes, and every other block of that memory is as it was
   module _ (legal : DeskLegal d) (e : writeLegal d body ≡ true) where

@@ -2,7 +2,7 @@
 use rules::BLOCKS;
 ghost use mathlib.Core.Path.{_≡_};
 ghost use Prim.Native.Nat.{_<_};
-ghost use Rattle.rules.specs.Config.{inEeprom, allBlocks, blockOf, namesOne, namesSome};
+ghost use Rattle.rules.specs.Config.{inEeprom, allBlocks, blockOf, namesOne, namesSome, passwordInRam};
 
 pub fn in_eeprom(adr: u8) -> bool
     ensures { λ r. ⌜ r ≡ inEeprom adr ⌝ }
@@ -40,4 +40,14 @@ pub fn names_some(adr: u8) -> bool
         return block_of(adr) == 0;
     }
     block_of(adr) < BLOCKS
+}
+
+// What 0x81 turns down: block 0 with LOC 0.
+pub fn password_in_ram(adr: u8) -> bool
+    ensures { λ r. ⌜ r ≡ passwordInRam adr ⌝ }
+{
+    if block_of(adr) != 0 {
+        return false;
+    }
+    !in_eeprom(adr)
 }

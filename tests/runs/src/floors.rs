@@ -7,7 +7,7 @@ use second::situations::statuses;
 /// `(calls, call, outcomes)`: each outcome of that call is met at least once in so many calls. A run of fewer calls than that is
 /// not asked for it, so that a short run, as under valgrind, is asked for the frequent ones alone. The numbers leave room for
 /// chance: in sixty runs of 100000 calls the least count was at least twice the floor.
-const FLOORS: [(u64, &str, &[&str]); 40] = [
+const FLOORS: [(u64, &str, &[&str]); 44] = [
     (500, "history", &["0x80 answers 0x00", "0x81 answers 0x00", "0x22 answers 0x00", "done", "recorded"]),
     (1000, "history", &["0xA0 answers 0x00", "ignored"]),
     (5000, "history", &["0x80 answers 0x13", "0xA0 answers 0x14", "0x64 answers 0x00", "0x22 answers 0x93", "0x22 answers 0x94"]),
@@ -15,7 +15,8 @@ const FLOORS: [(u64, &str, &[&str]); 40] = [
     (RARE, "history", &["refused 6"]),
     (500, "frame", &["refused 1", "refused 2", "status 0x00"]),
     (5000, "frame", &["refused 3", "status 0x11", "status 0x13", "status 0x81"]),
-    (RARE, "frame", &["refused 4", "refused 5", "status 0x14", "status 0x15", "status 0x80"]),
+    (100000, "frame", &["refused 5"]),
+    (RARE, "frame", &["refused 4", "status 0x14", "status 0x15", "status 0x16", "status 0x80"]),
     (RARE, "frame", &["status 0x92", "status 0x93", "status 0x94"]),
     (500, "sighting", &["refused 1", "refused 5, a mask of 0 or above 255 as well", "refused 6, above 255", "recorded"]),
     (5000, "sighting", &["refused 5", "refused 5, above 255", "refused 6", "ignored", "lost"]),
@@ -31,6 +32,9 @@ const FLOORS: [(u64, &str, &[&str]); 40] = [
     (500, "read", &["status 0x00"]),
     (5000, "read", &["status 0x11", "status 0x13", "status 0x14", "status 0x92", "status 0x93", "status 0x94"]),
     (RARE, "read", &["status 0x15", "refused 3, no kind", "refused 3, no command", "refused 4, no kind", "refused 4, no command"]),
+    (RARE, "make", &["written, a password into RAM", "refused 7, a password into RAM"]),
+    (RARE, "read", &["status 0x13, a password into RAM", "status 0x16, a password into RAM"]),
+    (RARE, "read", &["refused 8, a password into RAM"]),
     (500, "line", &["refused 6", "written"]),
     (500, "lines", &["refused 6"]),
     (2000, "lines", &["refused 7", "written"]),

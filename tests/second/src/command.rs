@@ -10,6 +10,7 @@ pub const PARAMETER: u8 = 0x11;
 pub const LOGIN_NEEDED: u8 = 0x13;
 pub const LOGIN_FAILED: u8 = 0x14;
 pub const READ_PROTECTED: u8 = 0x15;
+pub const WRITE_PROTECTED: u8 = 0x16;
 pub const UNKNOWN: u8 = 0x80;
 pub const WRONG_LENGTH: u8 = 0x81;
 pub const NO_DATA: u8 = 0x92;
@@ -156,16 +157,21 @@ fn read_block(desk: &Desk, adr: u8) -> Reply {
     Reply::with(memory[block].to_vec())
 }
 
+/// No password into RAM: that is tested behind the address and before the bytes.
 fn write_block(desk: &mut Desk, data: &[u8]) -> Reply {
+    let Some((loc, block)) = blocks::one_block(data[0]) else {
+        return Reply::bare(PARAMETER);
+    };
+    if loc == Loc::Ram && block == 0 {
+        return Reply::bare(WRITE_PROTECTED);
+    }
     let mut bytes = [0; blocks::BLOCK_BYTES];
     bytes.copy_from_slice(&data[1..]);
-    match blocks::one_block(data[0]) {
-        Some((loc, block)) if blocks::write_legal(block, &bytes) => {
-            memory(desk, loc)[block] = bytes;
-            Reply::bare(OK)
-        }
-        _ => Reply::bare(PARAMETER),
+    if !blocks::write_legal(block, &bytes) {
+        return Reply::bare(PARAMETER);
     }
+    memory(desk, loc)[block] = bytes;
+    Reply::bare(OK)
 }
 
 fn save_blocks(desk: &mut Desk, adr: u8) -> Reply {
@@ -204,7 +210,7 @@ fn set_timer(desk: &mut Desk, data: &[u8]) -> Reply {
     Reply::bare(OK)
 }
 
-/// Against EEPROM: an unsaved password must not lock everyone out.
+/// Against EEPROM: RAM may still have the password from before.
 fn login(desk: &mut Desk, password: &[u8]) -> Reply {
     desk.logged_in = password == &desk.eeprom[0][..4];
     Reply::bare(if desk.logged_in { OK } else { LOGIN_FAILED })

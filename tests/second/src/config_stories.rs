@@ -94,14 +94,19 @@ pub fn both_memories(gen: &mut Gen, desk: usize) {
     }
 }
 
+/// A new password, now and then into RAM, and what logins, a reset, a save and
+/// defaults then make of the two memories.
 pub fn passwords(gen: &mut Gen) {
     let desk = gen.any_desk();
     gen.logged_in(desk);
     let old = gen.desk(desk).eeprom[0];
     let mut new = old;
     new[gen.random.below(4)] ^= 1 << gen.random.below(8);
-    let memory = gen.random.pick(&[0x00, 0x80]);
+    let memory = gen.random.pick(&[0x00, 0x00, 0x40, 0x80, 0x80, 0x80]);
     gen.write(desk, memory, &new);
+    if gen.random.one_in(4) {
+        gen.request(desk, 0x63, &[]);
+    }
     gen.request(desk, 0x80, &[0x0C]);
     gen.request(desk, 0xA0, &new[..4]);
     any_block_command(gen, desk);

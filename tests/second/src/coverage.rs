@@ -188,6 +188,20 @@ impl Coverage {
             let legal = if status == 0 { "legal" } else { "illegal" };
             self.count(&format!("0x81: {legal} block 7, LOC {}", frame.rest[0] >> 7));
         }
+        self.passwords(before, frame, status);
+    }
+
+    /// RAM and EEPROM have two passwords from a write to EEPROM until a reset.
+    fn passwords(&mut self, before: &Desk, frame: &Frame, status: u8) {
+        let two = before.ram[0] != before.eeprom[0];
+        let all = frame.rest[0] & 0x7F == 0x40;
+        let named = all || frame.rest[0] & 0x7F == 0;
+        self.count_if(status == 0x16 && two, "0x81: 0x16, EEPROM has another password");
+        self.count_if(status == 0x16 && !two, "0x81: 0x16, EEPROM has the same password");
+        if frame.control == 0x82 && status == 0 && two && named {
+            let how = if all { "all blocks" } else { "block 0" };
+            self.count(&format!("0x82: {how}, RAM's password put back"));
+        }
     }
 
     fn login(&mut self, before: &Desk, frame: &Frame, status: u8) {

@@ -1,6 +1,6 @@
 //! The host side: it makes requests and reads replies.
 
-use crate::blocks::{self, Block, BLOCK_BYTES};
+use crate::blocks::{self, Block, Loc, BLOCK_BYTES};
 use crate::command::{self, fitting};
 use crate::frame::{judge_reply, seal, Kind, Refusal};
 use crate::model::{Desk, DESKS, RECORD, TAB_SIZE};
@@ -148,9 +148,11 @@ fn block_possible(request: &Request, status: u8, length: usize) -> bool {
             Some((_, 0)) => (command::READ_PROTECTED, 0),
             Some(_) => (command::OK, BLOCK_BYTES),
         },
-        Request::WriteBlock { adr, bytes } => {
-            (status_if(one(adr).is_some_and(|(_, block)| blocks::write_legal(block, &bytes))), 0)
-        }
+        Request::WriteBlock { adr, bytes } => match one(adr) {
+            None => (command::PARAMETER, 0),
+            Some((Loc::Ram, 0)) => (command::WRITE_PROTECTED, 0),
+            Some((_, block)) => (status_if(blocks::write_legal(block, &bytes)), 0),
+        },
         Request::SaveBlocks { adr } => (status_if(blocks::saved_blocks(adr as u8).is_some()), 0),
         Request::SetDefaults { adr } => (status_if(blocks::cfg_adr(adr as u8).is_some()), 0),
         _ => return false,

@@ -40,7 +40,7 @@ fn on_row(row: &mut [u8], command: Command, data: &[u8]) -> Reply {
         Command::Baud => data[0] == 0,
         Command::GetTimer => return Reply::with(row[TIMER..MARK].to_vec()),
         Command::ReadBlock => return read_block(row, data[0]),
-        Command::WriteBlock => write_block(row, data),
+        Command::WriteBlock => return write_block(row, data),
         Command::SaveBlocks => save(row, data[0]),
         Command::SetDefaults => defaults(row, data[0]),
         Command::SetTimer => set_timer(row, data),
@@ -81,15 +81,16 @@ fn read_block(row: &[u8], adr: u8) -> Reply {
     }
 }
 
-fn write_block(row: &mut [u8], data: &[u8]) -> bool {
+fn write_block(row: &mut [u8], data: &[u8]) -> Reply {
     let bytes = std::array::from_fn(|i| data[1 + i]);
     match blocks::one_block(data[0]) {
+        Some((Loc::Ram, 0)) => Reply::bare(WRITE_PROTECTED),
         Some((loc, block)) if blocks::write_legal(block, &bytes) => {
             let at = block_at(loc, block);
             row[at..at + BLOCK_BYTES].copy_from_slice(&bytes);
-            true
+            Reply::bare(OK)
         }
-        _ => false,
+        _ => Reply::bare(PARAMETER),
     }
 }
 

@@ -270,6 +270,7 @@ pub fn any_request(gen: &mut Gen) -> Request {
         1 => Request::CpuReset,
         2 => Request::SystemReset,
         3 => Request::ReadBlock { adr },
+        4 if random.one_in(2) => Request::WriteBlock { adr: random.pick(&[0x00, 0x00, 0x40, 0x80]), bytes },
         4 => Request::WriteBlock { adr, bytes },
         5 => Request::SaveBlocks { adr },
         6 => Request::SetDefaults { adr },
@@ -291,7 +292,7 @@ pub fn any_reply(random: &Random, kind: Kind, desk: u8, request: &Request) -> Ve
     let mut rest = box_answer(random, kind, request);
     let (mut kind, mut address, mut control) = (kind, desk, request.control());
     match random.below(16) {
-        0..2 => rest[0] = random.pick(&[0, 0x11, 0x13, 0x14, 0x15, 0x80, 0x81]),
+        0..2 => rest[0] = random.pick(&[0, 0x11, 0x13, 0x14, 0x15, 0x16, 0x80, 0x81]),
         2..4 => rest[0] = random.pick(&[0, 0x11, 0x92, 0x93, 0x94, 0x94]),
         4 => rest.truncate(random.below(rest.len() + 1)),
         5 => rest.push(0),

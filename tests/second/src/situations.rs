@@ -8,7 +8,8 @@ pub fn statuses(control: u8) -> &'static [u8] {
     match control {
         0x52 | 0x85 => &[0x00, 0x11],
         0x80 => &[0x00, 0x11, 0x13, 0x15],
-        0x81..=0x83 => &[0x00, 0x11, 0x13],
+        0x81 => &[0x00, 0x11, 0x13, 0x16],
+        0x82 | 0x83 => &[0x00, 0x11, 0x13],
         0xA0 => &[0x00, 0x14],
         0x22 => &[0x00, 0x11, 0x92, 0x93, 0x94],
         _ => &[0x00],
@@ -131,7 +132,7 @@ pub fn refused_shape(octets: &[u8], refusal: Refusal) -> String {
     }
 }
 
-const FIXED: [&str; 70] = [
+const FIXED: [&str; 74] = [
     "frame: refused 3, empty",
     "frame: refused 3, Standard too long",
     "frame: refused 3, Advanced too long",
@@ -194,6 +195,10 @@ const FIXED: [&str; 70] = [
     "0x33 while locks stand",
     "0x63 while locks stand",
     "0x64 while locks stand",
+    "0x81: 0x16, EEPROM has another password",
+    "0x81: 0x16, EEPROM has the same password",
+    "0x82: all blocks, RAM's password put back",
+    "0x82: block 0, RAM's password put back",
     "0x81: legal block 7, LOC 0",
     "0x81: legal block 7, LOC 1",
     "0x81: illegal block 7, LOC 0",

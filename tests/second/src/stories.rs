@@ -15,7 +15,7 @@ const STORIES: [(usize, Story); 28] = [
     (16, shapes::too_short),
     (12, shapes::noise),
     (80, shapes::malformed),
-    (10, config_stories::passwords),
+    (16, config_stories::passwords),
     (10, config_stories::configuration),
     (6, config_stories::save_and_defaults),
     (10, config_stories::block7),

@@ -2,7 +2,7 @@
 use borrow.Author.Needs.{needs}
 use Rattle.commands.specs.Ruled.{said}
 use borrow.Author.Tests.{eq-eqb, ne-eqb}
-use mathlib.Core.Path.{_≡_, _∙_}
+use mathlib.Core.Path.{_≡_, refl, _∙_}
 use mathlib.Core.Option.{none}
 use Rattle.octets.specs.Tests.{first}
 use Rattle.rules.specs.Command.{rowTests}
@@ -15,7 +15,7 @@ unfolding said
 returns c =
     let t = c .before in
     let z = t .before .before .before .before .before in
-    ruled-refused (z .args .command) (z .args .body .now) _ (t .before .own-tests .ensures ∙ rw (ne-eqb _ 0 (t .if1 .taken))) (z .pre .0) (c .plain .ensures)
+    ruled-refused (z .args .command) (z .args .body .now) _ (t .before .own-tests .ensures ∙ rw (ne-eqb _ 0 (t .if1 .taken))) (z .pre .0) refl (c .plain .ensures)
 
 -- no test is given
 none-given : (c : tie.Else1) → first (rowTests (c .before .before .before .before .before .args .command) (c .before .before .before .before .before .args .body .now)) ≡ none

@@ -49,6 +49,7 @@ type Story = fn(&mut Gen, usize);
 /// Short stories, so that every module meets what random events may pass by (`must_meet`).
 const STORIES: [Story; 5] = [passwords, blocks, system_reset, antennas, refusals];
 
+/// A wrong one; then it becomes the right one, in EEPROM alone, until a save puts the old one back.
 fn passwords(gen: &mut Gen, desk: usize) {
     let mut wrong = gen.desk(desk).eeprom[0];
     wrong[gen.random.below(4)] ^= 1 << gen.random.below(8);
@@ -56,6 +57,13 @@ fn passwords(gen: &mut Gen, desk: usize) {
     gen.request(desk, 0x80, &[0x8C]);
     gen.login(desk);
     gen.request(desk, 0x80, &[0x00]);
+    gen.write(desk, gen.random.pick(&[0x40, 0xC0]), &wrong);
+    gen.write(desk, 0x00, &wrong);
+    gen.write(desk, 0x80, &wrong);
+    gen.request(desk, 0xA0, &wrong[..4]);
+    gen.request(desk, 0x82, &[gen.random.pick(&[0x00, 0x40])]);
+    gen.request(desk, 0xA0, &wrong[..4]);
+    gen.login(desk);
 }
 
 /// A VALID-TIME in RAM, saved, in force; then the default again, which waits for a reset.
@@ -119,11 +127,13 @@ fn tell(gen: &mut Gen, story: Story) {
 }
 
 /// Every other status than 0x00, every refusal of the box and every outcome of a sighting.
-const MET: [&str; 18] = [
+const MET: [&str; 20] = [
     "0x52 answers 0x11",
     "0x80 answers 0x13",
     "0xA0 answers 0x14",
     "0x80 answers 0x15",
+    "0x81 answers 0x11",
+    "0x81 answers 0x16",
     "unknown answers 0x80",
     "0x86 answers 0x81",
     "0x22 answers 0x92",

@@ -11,6 +11,7 @@ use second::blocks::{block7_legal, BLOCK_BYTES};
 use second::data;
 use second::frame::Kind;
 use second::gen::Gen;
+use second::host::Request;
 use second::model::{DESKS, RECORD};
 use second::place::{self, REPLY_BUFFER};
 use second::random::Random;
@@ -171,7 +172,7 @@ impl Hostile {
         let q = Asked::of(random, random.pick(&Kind::BOTH), any_desk(random), &request).beyond(random);
         let out = random.octets(random.below(40));
         let code = both(("make", &q), &out, |out| q.made(out), |out| depot::raw::make(q.raw(), out));
-        self.tally.count(&format!("make: {}{}", outcome(code), no_request(&q)));
+        self.tally.count(&format!("make: {}{}", outcome(code), remark(&q)));
     }
 
     fn reader(&mut self) {
@@ -182,7 +183,7 @@ impl Hostile {
         let q = Asked::of(random, kind, desk, &request).beyond(random);
         let code = q.read(&reply);
         assert_eq!(depot::raw::read(q.raw(), &reply), code, "read {q:?} {reply:02X?}");
-        self.tally.count(&format!("read: {}{}", outcome(code), no_request(&q)));
+        self.tally.count(&format!("read: {}{}", outcome(code), remark(&q)));
     }
 
     fn line_writer(&mut self) {
@@ -329,8 +330,13 @@ fn answered(request: &[u8], reply: &[u8]) -> String {
 }
 
 /// Why numbers name no request.
-fn no_request(q: &Asked) -> String {
-    q.request().err().map_or(String::new(), |why| format!(", {why}"))
+/// Of what is no request, the reason; of a password into RAM, that it is one.
+fn remark(q: &Asked) -> String {
+    match q.request() {
+        Err(why) => format!(", {why}"),
+        Ok((_, Request::WriteBlock { adr: 0, .. })) => ", a password into RAM".into(),
+        Ok(_) => String::new(),
+    }
 }
 
 fn main() {
