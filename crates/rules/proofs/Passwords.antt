@@ -64,6 +64,7 @@ not-of-block-7 adr b e =
 
 -- ---- set
 
+-- the password is how block 0 begins
 begins : (m body : List ℕ) → blockAt 0 m ≡ drop 1 body → part 0 4 m ≡ part 1 4 body
 unfolding blockAt part
 begins m body e = sym (part-part 0 4 0 blockSize m (lit≤ tt)) ∙ ap (part 0 4) e

@@ -37,6 +37,15 @@ pub password-of-eeprom :
 unfolding computed
 password-of-eeprom = refl
 
+-- defaults in RAM that are not saved lock nobody out: the password is still that of EEPROM
+pub unsaved-password :
+    run freshBox
+    (ask 0xA0 (zeros 4) ∷ ask 0x81 (0x80 ∷ 1 ∷ 2 ∷ 3 ∷ 4 ∷ zeros 10) ∷ ask 0x63 [] ∷ ask 0xA0 (1 ∷ 2 ∷ 3 ∷ 4 ∷ []) ∷ ask 0x83 (0x00 ∷ []) ∷ ask 0xA0 (1 ∷ 2 ∷ 3 ∷ 4 ∷ [])
+    ∷ ask 0xA0 (zeros 4) ∷ [])
+    ≡ told 0xA0 0x00 [] ∷ told 0x81 0x00 [] ∷ told 0x63 0x00 [] ∷ told 0xA0 0x00 [] ∷ told 0x83 0x00 [] ∷ told 0xA0 0x00 [] ∷ told 0xA0 0x14 [] ∷ []
+unfolding computed
+unsaved-password = refl
+
 -- VALID-TIME 1 written to EEPROM: a lock still lasts 55 ticks; after 0x63 one tick
 pub valid-time-at-reset :
     run freshBox (ask 0xA0 (zeros 4) ∷ ask 0x81 (0x8C ∷ 0 ∷ 1 ∷ zeros 12) ∷ sighting 0 7 1 ∷ tick ∷ sighting 0 7 1 ∷ ask 0x63 [] ∷ sighting 0 7 1 ∷ tick ∷ sighting 0 7 1 ∷ [])
