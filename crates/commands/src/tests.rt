@@ -6,14 +6,13 @@ use ruling::adr::names_one;
 use ruling::adr::names_some;
 use ruling::adr::password_in_ram;
 ghost use mathlib.Core.Path.{_≡_};
-ghost use mathlib.Core.Bool.{true, cond, not, _&&_};
-ghost use Prim.Native.Nat.{_+_, _≤_};
+ghost use mathlib.Core.Bool.{true, cond};
+ghost use Prim.Native.Nat.{_+_};
 ghost use lib.ListN.{length, drop};
-ghost use lib.Dec.{eqb};
 ghost use Rattle.octets.specs.Tests.{first};
 ghost use Rattle.rules.specs.declared.control.Command.{Command};
 ghost use Rattle.rules.specs.declared.control.RowCommand.{RowCommand};
-ghost use Rattle.rules.specs.Config.{blockSize, lineLegal};
+ghost use Rattle.rules.specs.Config.{blockSize, bytesUnfit};
 ghost use Rattle.rules.specs.Control.{sizedFor};
 ghost use Rattle.rules.specs.Command.{rowTests};
 ghost use Rattle.commands.specs.Ruled.{said, firstOf};
@@ -50,7 +49,7 @@ fn of_read(body: &[u8]) -> u8
 // Whether block k may not take the bytes behind CFG-ADR.
 fn unfit(k: usize, body: &[u8]) -> bool
     requires { ⌜ length (now body) ≡ 1 + blockSize ⌝ }
-    ensures { λ r. ⌜ r ≡ (eqb k 7 && not (lineLegal (drop 1 (now (body .entry))))) ⌝ }
+    ensures { λ r. ⌜ r ≡ bytesUnfit k (drop 1 (now (body .entry))) ⌝ }
 {
     if k != 7 {
         return false;

@@ -3,7 +3,6 @@ use Prim.Native.Nat.{ℕ, _+_, _*_, _≤_, _<_, min}
 use mathlib.Core.Path.{_≡_, refl, ap, _∙_}
 use mathlib.Core.Bool.{Bool, true, false, cond, not, _&&_, _||_}
 use mathlib.Core.List.{List}
-use mathlib.Core.Option.{none, some}
 use native.Mathlib.Omega.{arith}
 use lib.ListN.{length, take, length-take, length-append}
 use lib.Dec.{eqb, ltb, lit<}
@@ -18,7 +17,7 @@ use Rattle.timer.proofs.ReadBack.{timer-length}
 use Rattle.frame.specs.declared.Kind.{Kind}
 use Rattle.frame.specs.declared.Kind.the-variants.{Standard, Advanced}
 use Rattle.table.specs.Entries.{recordWidth, share, desks}
-use Rattle.rules.specs.Config.{inEeprom, blockOf, namesOne, namesSome, passwordInRam, lineLegal, blockSize}
+use Rattle.rules.specs.Config.{inEeprom, blockOf, namesOne, namesSome, passwordInRam, bytesUnfit, blockSize}
 use Rattle.rules.specs.Desk.{Desk, Table, memoryOf}
 use Rattle.rules.specs.Records.{mostSent, goes, readStatus, counted}
 use Rattle.rules.specs.Command.{rowTests, tableTests, Result, result, done, rowEffect, tableEffect, unless, passwordIs}
@@ -26,7 +25,7 @@ use Rattle.rules.proofs.Facts.{TableLegal, RecordLegal, DeskLegal}
 use Rattle.rules.proofs.Memories.{length-block}
 use Rattle.rules.proofs.Desks.{memory-of, names-one}
 use Rattle.rules.proofs.Computed.{computed}
-use Rattle.rules.proofs.Passwords.{not-of-block-7}
+use Rattle.rules.proofs.Passwords.{bytes-fit}
 use Rattle.requests.specs.declared.Ask.{Ask}
 use Rattle.requests.specs.declared.Ask.the-variants.{Baud, Reset, SystemReset, ReadBlock, WriteBlock, SaveBlocks, RestoreBlocks, SetTimer, SendTimer, Login, ReadRecords, SendTable, RemoveRecords, ClearRecords}
 use Rattle.requests.specs.declared.Request.{Request}
@@ -34,6 +33,7 @@ use Rattle.requests.specs.Request.{bodyOf, fieldsHold, denied, needsLogin}
 use Rattle.possible.specs.Possible.{pair, plain, statusMay, recordsMay, allowed, mayAnswer, possible}
 use Rattle.requests.proofs.Values.{two-back}
 use Rattle.requests.proofs.Asked.{answerTo, ownAnswer, asked-barred, asked-open}
+use Rattle.requests.proofs.Behind.{one-test, other-test, between}
 use Rattle.requests.proofs.Denied.{unfit, denied-is}
 use Rattle.rules.proofs.Counts.{legal-wide, records-back, counted-length}
 
@@ -79,27 +79,8 @@ module _ (kind : Kind) (k : ℕ) (t : Table) (p : TableLegal t) where
 abbrev says : Bool → (ℕ → ℕ → Bool) → Result → Bool
 says out may r = cond out (plain 0x11 (r .status) (length (r .sent))) (may (r .status) (length (r .sent)))
 
-module _ (d : Desk) (r : Result) (may : ℕ → ℕ → Bool) where
-  one-test : (b : Bool) → (b ≡ false → may (r .status) (length (r .sent)) ≡ true) → says b may (unless (cond b (some 0x11) none) d r) ≡ true
-  unfolding unless result plain pair
-  one-test true h = refl
-  one-test false h = h refl
-
-  -- the second test gives another status
-  other-test : (a b : Bool) (n : ℕ) → (b ≡ true → may n 0 ≡ true) → (a ≡ false → b ≡ false → may (r .status) (length (r .sent)) ≡ true)
-      → says a may (unless (cond a (some 0x11) (cond b (some n) none)) d r) ≡ true
-  unfolding unless result plain pair
-  other-test true b n e h = refl
-  other-test false true n e h = e refl
-  other-test false false n e h = h refl refl
-
-  -- so does the one between two of 0x11, and never where the last is given
-  between : (a b c : Bool) (n : ℕ) → (b ≡ true → c ≡ false) → (b ≡ true → may n 0 ≡ true) → (b ≡ false → may (r .status) (length (r .sent)) ≡ true)
-      → says (a || c) may (unless (cond a (some 0x11) (cond b (some n) (cond c (some 0x11) none))) d r) ≡ true
-  unfolding unless result plain pair
-  between true b c n f e h = refl
-  between false true c n f e h = rw (f refl) (e refl)
-  between false false c n f e h = one-test c (λ z. h refl)
+abbrev Says : (ℕ → ℕ → Bool) → Bool → Result → Type 0
+Says may out r = says out may r ≡ true
 
 or-second : (a b : Bool) → b ≡ true → a || b ≡ true
 or-second true b e = refl
@@ -117,24 +98,24 @@ module _ (kind : Kind) (desk : ℕ) (bytes : List ℕ) (d : Desk) (p : DeskLegal
   own-may : (a : Ask) → fieldsHold a ≡ true
       → says (unfit a bytes) (allowed kind a) (ownAnswer (record { kind = kind; desk = desk; ask = a; bytes = bytes }) d) ≡ true
   unfolding rowTests tableTests first rowEffect tableEffect done unless result plain pair
-  own-may (Baud n) f = one-test d _ (plain 0x00) (not (eqb n 0)) (λ e. refl)
+  own-may (Baud n) f = one-test (Says (plain 0x00)) d _ refl (not (eqb n 0)) (λ e. refl)
   own-may Reset f = refl
   own-may SystemReset f = refl
   own-may (ReadBlock adr) f =
-      other-test d _ (allowed kind (ReadBlock adr)) (not (namesOne adr)) (eqb (blockOf adr) 0) 0x15 (λ e. rw e)
+      other-test (Says (allowed kind (ReadBlock adr))) d _ refl (not (namesOne adr)) (eqb (blockOf adr) 0) 0x15 (λ e. rw e)
       (λ e z. rw (z, length-block (memoryOf (inEeprom adr) d) (memory-of d p (inEeprom adr)) (blockOf adr) (names-one adr (not-false (namesOne adr) e))))
   own-may (WriteBlock adr) f =
-      between d _ (allowed kind (WriteBlock adr)) (not (namesOne adr)) (passwordInRam adr) (eqb (blockOf adr) 7 && not (lineLegal bytes)) 0x16
-      (not-of-block-7 adr (not (lineLegal bytes))) (λ e. rw e) (λ e. rw e)
-  own-may (SaveBlocks adr) f = one-test d _ (plain 0x00) (inEeprom adr || not (namesSome adr)) (λ e. refl)
-  own-may (RestoreBlocks adr) f = one-test d _ (plain 0x00) (not (namesSome adr)) (λ e. refl)
-  own-may (SetTimer h m ms) f = one-test d _ (plain 0x00) (not (timerLegal (timerFrom (bodyOf (SetTimer h m ms) bytes)))) (λ e. refl)
+      between (Says (allowed kind (WriteBlock adr))) d _ refl (not (namesOne adr)) (passwordInRam adr) (bytesUnfit (blockOf adr) bytes) 0x16
+      (bytes-fit adr bytes) (λ e. rw e) (λ e. rw e)
+  own-may (SaveBlocks adr) f = one-test (Says (plain 0x00)) d _ refl (inEeprom adr || not (namesSome adr)) (λ e. refl)
+  own-may (RestoreBlocks adr) f = one-test (Says (plain 0x00)) d _ refl (not (namesSome adr)) (λ e. refl)
+  own-may (SetTimer h m ms) f = one-test (Says (plain 0x00)) d _ refl (not (timerLegal (timerFrom (bodyOf (SetTimer h m ms) bytes)))) (λ e. refl)
   own-may SendTimer f = rw (timer-length (d .timer))
   own-may (Login password) f = either (passwordIs (octets 4 password) d)
   own-may (ReadRecords k) f =
       let t = d .table in
       rw (k-back k f)
-      (other-test d _ (allowed kind (ReadRecords k)) (eqb k 0) (eqb (length (t .held)) 0) 0x92 (λ e. refl)
+      (other-test (Says (allowed kind (ReadRecords k))) d _ refl (eqb k 0) (eqb (length (t .held)) 0) 0x92 (λ e. refl)
       (λ e z. or-second (plain 0x92 (readStatus kind k t) (length (counted (take (goes kind k t) (t .held))))) _
       (records-hold kind k t (p .table) (omega (arith, eqb-false k 0 e)) (omega (arith, eqb-false (length (t .held)) 0 z)))))
   own-may SendTable f = rw (length-append, length-append, octets-length 2 share, octets-length 2 (d .table .start), octets-length 2 (length (d .table .held)))

@@ -3,24 +3,24 @@ use Prim.Native.Nat.{ℕ, min}
 use mathlib.Core.Path.{_≡_, refl, sym, ap, _∙_}
 use mathlib.Core.Bool.{Bool, true, false, cond, not, _&&_, _||_}
 use mathlib.Core.List.{List}
-use mathlib.Core.Option.{none, some}
 use lib.ListN.{length}
 use lib.Dec.{eqb, ltb}
 use Rattle.octets.specs.Tests.{first}
 use Rattle.octets.specs.Numbers.{octets, u16At}
 use Rattle.timer.specs.Clock.{timerLegal, timerFrom}
 use Rattle.frame.specs.declared.Kind.{Kind}
-use Rattle.rules.specs.Config.{blockSize, inEeprom, blockOf, namesOne, namesSome, passwordInRam, lineLegal}
+use Rattle.rules.specs.Config.{blockSize, inEeprom, blockOf, namesOne, namesSome, passwordInRam, bytesUnfit}
 use Rattle.rules.specs.Desk.{Desk, withLogin}
 use Rattle.rules.specs.Command.{rowTests, tableTests, Result, result, done, rowEffect, tableEffect, unless, passwordIs}
 use Rattle.rules.specs.Records.{goes, readStatus}
 use Rattle.rules.proofs.Computed.{computed}
-use Rattle.rules.proofs.Passwords.{not-of-block-7}
+use Rattle.rules.proofs.Passwords.{bytes-fit}
 use Rattle.requests.specs.declared.Ask.{Ask}
 use Rattle.requests.specs.declared.Ask.the-variants.{Baud, Reset, SystemReset, ReadBlock, WriteBlock, SaveBlocks, RestoreBlocks, SetTimer, SendTimer, Login, ReadRecords, SendTable, RemoveRecords, ClearRecords}
 use Rattle.requests.specs.declared.Request.{Request}
 use Rattle.requests.specs.Request.{bodyOf, openDesk, denied, inRange, needsLogin}
 use Rattle.requests.proofs.Asked.{answerTo, ownAnswer, asked-open}
+use Rattle.requests.proofs.Behind.{one-test, other-test, between}
 
 -- the values that are out of range
 abbrev pub unfit : Ask → List ℕ → Bool
@@ -28,7 +28,7 @@ unfit (Baud n) bytes = not (eqb n 0)
 unfit Reset bytes = false
 unfit SystemReset bytes = false
 unfit (ReadBlock adr) bytes = not (namesOne adr)
-unfit (WriteBlock adr) bytes = not (namesOne adr) || (eqb (blockOf adr) 7 && not (lineLegal bytes))
+unfit (WriteBlock adr) bytes = not (namesOne adr) || bytesUnfit (blockOf adr) bytes
 unfit (SaveBlocks adr) bytes = inEeprom adr || not (namesSome adr)
 unfit (RestoreBlocks adr) bytes = not (namesSome adr)
 unfit (SetTimer h m ms) bytes = not (timerLegal (timerFrom (bodyOf (SetTimer h m ms) bytes)))
@@ -42,26 +42,8 @@ unfit ClearRecords bytes = false
 is11 : Result → Bool
 is11 r = eqb (r .status) 0x11
 
--- one test that gives 0x11
-one-test : (b : Bool) (d : Desk) (r : Result) → is11 r ≡ false → is11 (unless (cond b (some 0x11) none) d r) ≡ b
-unfolding is11 unless result
-one-test true d r e = refl
-one-test false d r e = e
-
--- one that gives 0x11, and one after it that gives another status
-other-test : (a b : Bool) (n : ℕ) (d : Desk) (r : Result) → eqb n 0x11 ≡ false → is11 r ≡ false → is11 (unless (cond a (some 0x11) (cond b (some n) none)) d r) ≡ a
-unfolding is11 unless result
-other-test true b n d r e f = refl
-other-test false true n d r e f = e
-other-test false false n d r e f = f
-
--- two that give 0x11, and between them one that gives another status, never where the last is given
-between : (a b c : Bool) (n : ℕ) (d : Desk) (r : Result) → eqb n 0x11 ≡ false → (b ≡ true → c ≡ false) → is11 r ≡ false
-    → is11 (unless (cond a (some 0x11) (cond b (some n) (cond c (some 0x11) none))) d r) ≡ a || c
-unfolding is11 unless result
-between true b c n d r e f g = refl
-between false true c n d r e f g = e ∙ sym (f refl)
-between false false c n d r e f g = one-test c d r g
+abbrev Is11 : Bool → Result → Type 0
+Is11 out r = is11 r ≡ out
 
 cond-not : (b : Bool) (x y : ℕ) → eqb x 0x11 ≡ false → eqb y 0x11 ≡ false → eqb (cond b x y) 0x11 ≡ false
 cond-not true x y p q = p
@@ -75,20 +57,20 @@ read-not false false = refl
 module _ (kind : Kind) (bytes : List ℕ) (d : Desk) where
   own-11 : (desk : ℕ) (a : Ask) → is11 (ownAnswer (record { kind = kind; desk = desk; ask = a; bytes = bytes }) d) ≡ unfit a bytes
   unfolding rowTests tableTests first rowEffect tableEffect done is11 result readStatus unless
-  own-11 desk (Baud n) = one-test (not (eqb n 0)) d _ refl
+  own-11 desk (Baud n) = one-test Is11 d _ refl (not (eqb n 0)) (λ e. refl)
   own-11 desk Reset = refl
   own-11 desk SystemReset = refl
-  own-11 desk (ReadBlock adr) = other-test (not (namesOne adr)) (eqb (blockOf adr) 0) 0x15 d _ refl refl
+  own-11 desk (ReadBlock adr) = other-test Is11 d _ refl (not (namesOne adr)) (eqb (blockOf adr) 0) 0x15 (λ e. refl) (λ e z. refl)
   own-11 desk (WriteBlock adr) =
-      between (not (namesOne adr)) (passwordInRam adr) (eqb (blockOf adr) 7 && not (lineLegal bytes)) 0x16 d _ refl (not-of-block-7 adr (not (lineLegal bytes))) refl
-  own-11 desk (SaveBlocks adr) = one-test (inEeprom adr || not (namesSome adr)) d _ refl
-  own-11 desk (RestoreBlocks adr) = one-test (not (namesSome adr)) d _ refl
-  own-11 desk (SetTimer h m ms) = one-test (not (timerLegal (timerFrom (bodyOf (SetTimer h m ms) bytes)))) d _ refl
+      between Is11 d _ refl (not (namesOne adr)) (passwordInRam adr) (bytesUnfit (blockOf adr) bytes) 0x16 (bytes-fit adr bytes) (λ e. refl) (λ e. refl)
+  own-11 desk (SaveBlocks adr) = one-test Is11 d _ refl (inEeprom adr || not (namesSome adr)) (λ e. refl)
+  own-11 desk (RestoreBlocks adr) = one-test Is11 d _ refl (not (namesSome adr)) (λ e. refl)
+  own-11 desk (SetTimer h m ms) = one-test Is11 d _ refl (not (timerLegal (timerFrom (bodyOf (SetTimer h m ms) bytes)))) (λ e. refl)
   own-11 desk SendTimer = refl
   own-11 desk (Login password) = cond-not (passwordIs (octets 4 password) d) 0x00 0x14 refl refl
   own-11 desk (ReadRecords k) =
-      other-test (eqb (u16At 0 (octets 2 k)) 0) (eqb (length (d .table .held)) 0) 0x92 d _ refl
-      (read-not (d .table .overflow) (ltb (goes kind (u16At 0 (octets 2 k)) (d .table)) (min (u16At 0 (octets 2 k)) (length (d .table .held)))))
+      other-test Is11 d _ refl (eqb (u16At 0 (octets 2 k)) 0) (eqb (length (d .table .held)) 0) 0x92 (λ e. refl)
+      (λ e z. read-not (d .table .overflow) (ltb (goes kind (u16At 0 (octets 2 k)) (d .table)) (min (u16At 0 (octets 2 k)) (length (d .table .held)))))
   own-11 desk SendTable = refl
   own-11 desk RemoveRecords = refl
   own-11 desk ClearRecords = refl

@@ -1,5 +1,6 @@
 pub mod Asked
 pub mod Values
+pub mod Behind
 pub mod Denied
 pub mod BoxReads
 pub mod Apart

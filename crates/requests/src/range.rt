@@ -9,10 +9,10 @@ use ruling::adr::names_some;
 use timer::Timer;
 ghost use mathlib.Core.Path.{_≡_};
 ghost use mathlib.Core.Bool.{true, not, _&&_, _||_};
-ghost use lib.Dec.{ltb, eqb};
+ghost use lib.Dec.{ltb};
 ghost use Rattle.timer.specs.declared.Timer.{Timer};
 ghost use Rattle.timer.specs.Clock.{timerLegal};
-ghost use Rattle.rules.specs.Config.{inEeprom, blockOf, namesOne, namesSome, lineLegal};
+ghost use Rattle.rules.specs.Config.{inEeprom, blockOf, namesOne, namesSome, bytesUnfit};
 ghost use Rattle.requests.specs.Request.{fieldsHold, denied, inRange};
 
 fn timer_holds(h: u64, m: u64, ms: u64) -> bool
@@ -60,7 +60,7 @@ fn save_denied(adr: u8) -> bool
 
 // What 0x81 answers 0x11.
 fn write_denied(adr: u8, bytes: [u8; BLOCK]) -> bool
-    ensures { λ r. ⌜ r ≡ (not (namesOne adr) || (eqb (blockOf adr) 7 && not (lineLegal bytes))) ⌝ }
+    ensures { λ r. ⌜ r ≡ (not (namesOne adr) || bytesUnfit (blockOf adr) bytes) ⌝ }
 {
     if !names_one(adr) {
         return true;

@@ -7,7 +7,7 @@ use mathlib.Core.Bool.{Bool, true, false, not, _&&_}
 use mathlib.Core.List.{List, [], _++_}
 use mathlib.Core.Option.{none}
 use lib.ListN.{length, getD, drop, length-drop, length-append}
-use lib.Dec.{eqb, lit<}
+use lib.Dec.{lit<}
 use borrow.Author.Tests.{eqb-true, eq-eqb, not-false}
 use Rattle.octets.specs.Tests.{first}
 use Rattle.octets.specs.Numbers.{u16At, octets}
@@ -25,7 +25,7 @@ use Rattle.rules.specs.declared.control.RowCommand.the-variants.{Baud, R
 use Rattle.rules.specs.declared.control.TableCommand.{TableCommand}
 use Rattle.rules.specs.declared.control.TableCommand.the-variants.{SystemReset, ReadRecords, SendTable, RemoveRecords, ClearRecords}
 use Rattle.rules.specs.declared.control.Known.the-variants.{Listed}
-use Rattle.rules.specs.Config.{inEeprom, blockOf, namesOne, namesSome, passwordInRam, lineLegal, defaults, blockAt}
+use Rattle.rules.specs.Config.{inEeprom, blockOf, namesOne, namesSome, passwordInRam, bytesUnfit, defaults, blockAt}
 use Rattle.rules.specs.Desk.{Desk, emptyTable, withTable, restarted, memoryOf}
 use Rattle.rules.specs.Control.{known, sizedFor, termsOf, commands, knownIn}
 use Rattle.rules.specs.Command.{rowTests, tableTests, ownTests, result, done, rowEffect, tableEffect, effect, passwordIs}
@@ -76,7 +76,7 @@ module _ (d : Desk) (body : List ℕ) (p : DeskLegal d) where
       let adr = getD body 0 0 in
       let size : length body ≡ 15 = eqb-true (length body) 15 s in
       let one : namesOne adr ≡ true = not-false (namesOne adr) (none-head 0x11 (not (namesOne adr)) _ e) in
-      let line : eqb (blockOf adr) 7 && not (lineLegal (drop 1 body)) ≡ false = none-head 0x11 _ [] (none-tail 0x16 (passwordInRam adr) _ (none-tail 0x11 (not (namesOne adr)) _ e)) in
+      let line : bytesUnfit (blockOf adr) (drop 1 body) ≡ false = none-head 0x11 _ [] (none-tail 0x16 (passwordInRam adr) _ (none-tail 0x11 (not (namesOne adr)) _ e)) in
       memory-legal d p (inEeprom adr) _
       (written-legal (memoryOf (inEeprom adr) d) (memory-of d p (inEeprom adr)) (blockOf adr) (names-one adr one) (drop 1 body)
       (simp length-drop (omega arith)) (all-drop Octet 1 body o) (λ q. not-given _ _ line (eq-eqb (blockOf adr) 7 q)))

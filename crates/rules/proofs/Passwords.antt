@@ -16,7 +16,7 @@ use Rattle.frame.specs.declared.Kind.{Kind}
 use Rattle.frame.specs.declared.Kind.the-variants.{Standard}
 use Rattle.rules.specs.declared.control.Command.the-variants.{OnRow}
 use Rattle.rules.specs.declared.control.RowCommand.the-variants.{WriteBlock}
-use Rattle.rules.specs.Config.{blockSize, blockAt, written, inEeprom, blockOf, namesOne, passwordInRam}
+use Rattle.rules.specs.Config.{blockSize, blockAt, written, inEeprom, blockOf, namesOne, passwordInRam, bytesUnfit}
 use Rattle.rules.specs.Desk.{Desk, withMemory, memoryOf}
 use Rattle.rules.specs.Control.{sizedFor}
 use Rattle.rules.specs.Command.{adrOf, passwordIs, Result, result, done, answered}
@@ -56,9 +56,9 @@ module _ (kind : Kind) (d : Desk) (bytes : List ℕ) (size : length bytes ≡ bl
   into-all = write-told kind d (0x40 ∷ bytes) (sized 0x40) 0x11 refl
 
 -- it is not block 7, so that no test of the bytes is given beside
-pub not-of-block-7 : (adr : ℕ) (b : Bool) → passwordInRam adr ≡ true → eqb (blockOf adr) 7 && b ≡ false
+pub bytes-fit : (adr : ℕ) (bytes : List ℕ) → passwordInRam adr ≡ true → bytesUnfit (blockOf adr) bytes ≡ false
 unfolding passwordInRam
-not-of-block-7 adr b e =
+bytes-fit adr bytes e =
     let zero : blockOf adr ≡ 0 = eqb-true (blockOf adr) 0 (and-left (eqb (blockOf adr) 0) (not (inEeprom adr)) e) in
     rw zero refl
 

@@ -7,14 +7,13 @@ use mathlib.Core.List.{List, []}
 use mathlib.Core.Option.{some}
 use native.Mathlib.Omega.{arith}
 use lib.ListN.{length, drop, length-drop}
-use lib.Dec.{eqb}
 use borrow.Author.Tests.{eqb-true}
 use Rattle.octets.specs.Tests.{first}
 use Rattle.octets.proofs.Tests.{and-left, and-right}
 use Rattle.frame.specs.declared.Kind.{Kind}
 use Rattle.rules.specs.declared.control.Command.the-variants.{OnRow}
 use Rattle.rules.specs.declared.control.RowCommand.the-variants.{WriteBlock}
-use Rattle.rules.specs.Config.{blockSize, blockCount, blockOf, namesOne, passwordInRam, inEeprom, blockAt, written, lineLegal}
+use Rattle.rules.specs.Config.{blockSize, blockCount, blockOf, namesOne, passwordInRam, inEeprom, blockAt, written, bytesUnfit}
 use Rattle.rules.specs.Desk.{Desk, memoryOf}
 use Rattle.rules.specs.Control.{commands, knownIn, known, sizedFor}
 use Rattle.rules.specs.Command.{adrOf, Result, result, done, rowTests, rowEffect, tests, unless, obey, answered}
@@ -42,8 +41,8 @@ module _ (kind : Kind) (d : Desk) (body : List ℕ) where
       let in′ : not (d .loggedIn) ≡ false = ap not login in
       let one : namesOne (adrOf body) ≡ true = search (and-left, and-right) in
       let open′ : not (passwordInRam (adrOf body)) ≡ true = search (and-left, and-right) in
-      let bytes : not (eqb (blockOf (adrOf body)) 7 && not (lineLegal (drop 1 body))) ≡ true = search (and-left, and-right) in
-      rw (size, in′, one, fits (passwordInRam (adrOf body)) open′, fits (eqb (blockOf (adrOf body)) 7 && not (lineLegal (drop 1 body))) bytes)
+      let bytes : not (bytesUnfit (blockOf (adrOf body)) (drop 1 body)) ≡ true = search (and-left, and-right) in
+      rw (size, in′, one, fits (passwordInRam (adrOf body)) open′, fits (bytesUnfit (blockOf (adrOf body)) (drop 1 body)) bytes)
     where
       fits : (b : Bool) → not b ≡ true → b ≡ false
       fits true q = cc
@@ -52,11 +51,11 @@ module _ (kind : Kind) (d : Desk) (body : List ℕ) where
   pub write-turned : writeLegal d body ≡ false → Turned d (answered kind d 0x81 body)
   unfolding writeLegal answered known knownIn commands obey tests first rowTests unless
   write-turned e =
-      go (sizedFor (OnRow WriteBlock) body) (d .loggedIn) (namesOne (adrOf body)) (passwordInRam (adrOf body)) (eqb (blockOf (adrOf body)) 7 && not (lineLegal (drop 1 body)))
+      go (sizedFor (OnRow WriteBlock) body) (d .loggedIn) (namesOne (adrOf body)) (passwordInRam (adrOf body)) (bytesUnfit (blockOf (adrOf body)) (drop 1 body))
       refl refl refl refl refl e
     where
       go : (a b c w x : Bool) → sizedFor (OnRow WriteBlock) body ≡ a → d .loggedIn ≡ b → namesOne (adrOf body) ≡ c → passwordInRam (adrOf body) ≡ w
-          → (eqb (blockOf (adrOf body)) 7 && not (lineLegal (drop 1 body))) ≡ x → a && b && c && not w && not x ≡ false → Turned d (answered kind d 0x81 body)
+          → bytesUnfit (blockOf (adrOf body)) (drop 1 body) ≡ x → a && b && c && not w && not x ≡ false → Turned d (answered kind d 0x81 body)
       go false b c w x p q r s t n = rw p (turned d 0x81 (omega arith))
       go true false c w x p q r s t n = let out : not (d .loggedIn) ≡ true = ap not q in rw (p, out) (turned d 0x13 (omega arith))
       go true true false w x p q r s t n = let in′ : not (d .loggedIn) ≡ false = ap not q in rw (p, in′, r) (turned d 0x11 (omega arith))
