@@ -20,7 +20,7 @@ SLIPS = os.path.join(HERE, "slips")
 BY_SIDES = ("store.txt", "host.txt", "data.txt", "lines.txt")
 # The short run first: it notices most, and the first that differs is enough.
 EVENTS = [(1, 4000), (2, 20000), (3, 20000)]
-SIDES = [(1, 2000), (2, 10000), (3, 10000)]
+SIDES = [(1, 2000), (2, 10000), (3, 30000)]
 WORKERS = 2
 # Quicker to build than to run well: no optimizing, and only what is needed.
 RUSTC = ["rustc", "--edition", "2021", "-C", "opt-level=0", "-C", "debuginfo=0", "--cap-lints", "allow"]
