@@ -7,7 +7,7 @@ use mathlib.Core.Bool.{Bool, true, false, cond, not, _&&_}
 use mathlib.Core.List.{List, [], _∷_}
 use lib.ListN.{length, drop}
 use lib.Dec.{eqb, lit≤}
-use borrow.Author.Tests.{eq-eqb, eqb-true, not-true}
+use borrow.Author.Tests.{eq-eqb, eqb-true, not-true, not-false}
 use Rattle.octets.specs.Parts.{part, alike}
 use Rattle.octets.proofs.Tests.{and-left, and-right}
 use Rattle.octets.proofs.Every.{every-at}
@@ -75,11 +75,7 @@ module _ (d : Desk) (body : List ℕ) (legal : DeskLegal d) (zero : blockOf (adr
   unfolding writeLegal passwordInRam
   into-eeprom e =
       let open′ : not (eqb (blockOf (adrOf body)) 0 && not (inEeprom (adrOf body))) ≡ true = search (and-left, and-right) in
-      go (inEeprom (adrOf body)) (rw (eq-eqb (blockOf (adrOf body)) 0 zero) at open′)
-    where
-      go : (b : Bool) → not (not b) ≡ true → b ≡ true
-      go true q = refl
-      go false q = q
+      not-false (inEeprom (adrOf body)) (not-true (not (inEeprom (adrOf body))) (rw (eq-eqb (blockOf (adrOf body)) 0 zero) at open′))
 
   password-written : writeLegal d body ≡ true → (password : List ℕ) → passwordIs password (writtenDesk body d) ≡ alike password (part 1 4 body)
   unfolding passwordIs writtenDesk withMemory memoryOf

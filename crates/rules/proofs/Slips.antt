@@ -1,4 +1,4 @@
--- Slips that have been made, each as a short day at the box with the answers that the paper gives; slip 4 also of every desk. Assumes nothing.
+-- Slips that have been made, each as a short day at the box with the answers that the paper gives, slip 2 as two; slip 4 also of every desk. Assumes nothing.
 use mathlib.Core.Path.{_≡_, refl}
 use Prim.Native.Nat.{ℕ}
 use mathlib.Core.Bool.{true}

@@ -7,7 +7,7 @@ use mathlib.Core.List.{List, []}
 use mathlib.Core.Option.{some}
 use native.Mathlib.Omega.{arith}
 use lib.ListN.{length, drop, length-drop}
-use borrow.Author.Tests.{eqb-true}
+use borrow.Author.Tests.{eqb-true, not-true}
 use Rattle.octets.specs.Tests.{first}
 use Rattle.octets.proofs.Tests.{and-left, and-right}
 use Rattle.frame.specs.declared.Kind.{Kind}
@@ -42,11 +42,7 @@ module _ (kind : Kind) (d : Desk) (body : List ℕ) where
       let one : namesOne (adrOf body) ≡ true = search (and-left, and-right) in
       let open′ : not (passwordInRam (adrOf body)) ≡ true = search (and-left, and-right) in
       let bytes : not (bytesUnfit (blockOf (adrOf body)) (drop 1 body)) ≡ true = search (and-left, and-right) in
-      rw (size, in′, one, fits (passwordInRam (adrOf body)) open′, fits (bytesUnfit (blockOf (adrOf body)) (drop 1 body)) bytes)
-    where
-      fits : (b : Bool) → not b ≡ true → b ≡ false
-      fits true q = cc
-      fits false q = refl
+      rw (size, in′, one, not-true (passwordInRam (adrOf body)) open′, not-true (bytesUnfit (blockOf (adrOf body)) (drop 1 body)) bytes)
 
   pub write-turned : writeLegal d body ≡ false → Turned d (answered kind d 0x81 body)
   unfolding writeLegal answered known knownIn commands obey tests first rowTests unless

@@ -16,11 +16,12 @@ pub is-allowed-spec : {M : Type 1} → statement M
 is-allowed-spec =
     tie.close
     (tie.spec (λ c. search needs) (λ c κs. search needs) (λ c. search needs) (λ c κs. search needs) (λ c. search needs)
-    (λ c κs. search needs) (λ c. search needs) cast-block-may (λ c κs. search needs) (λ c. search needs) cast-write-may (λ c κs. search needs)
-    (λ c. search needs) (λ c κs. search needs) (λ c. search needs) (λ c κs. search needs) (λ c. search needs)
+    (λ c κs. search needs) (λ c. search needs) cast-block-may (λ c κs. search needs) (λ c. search needs) cast-write-may
     (λ c κs. search needs) (λ c. search needs) (λ c κs. search needs) (λ c. search needs) (λ c κs. search needs)
     (λ c. search needs) (λ c κs. search needs) (λ c. search needs) (λ c κs. search needs) (λ c. search needs)
-    (λ c κs. search needs) (λ c. search needs) (λ c κs. search needs) (λ c. search allowed-as) (λ c. search allowed-as)
-    (λ c. search allowed-as) (λ c. search allowed-as) (λ c. search allowed-as) (λ c. search allowed-as) (λ c. search allowed-as)
-    (λ c. search allowed-as) (λ c. search allowed-as) (λ c. search allowed-as) (λ c. search allowed-as) (λ c. search allowed-as)
-    (λ c. search allowed-as) (λ c. search allowed-as))
+    (λ c κs. search needs) (λ c. search needs) (λ c κs. search needs) (λ c. search needs) (λ c κs. search needs)
+    (λ c. search needs) (λ c κs. search needs) (λ c. search needs) (λ c κs. search needs) (λ c. search allowed-as)
+    (λ c. search allowed-as) (λ c. search allowed-as) (λ c. search allowed-as) (λ c. search allowed-as)
+    (λ c. search allowed-as) (λ c. search allowed-as) (λ c. search allowed-as) (λ c. search allowed-as)
+    (λ c. search allowed-as) (λ c. search allowed-as) (λ c. search allowed-as) (λ c. search allowed-as)
+    (λ c. search allowed-as))
