@@ -178,7 +178,8 @@ uint64_t depot_tick(uint8_t *store, size_t store_len);
  * Answers: DEPOT_WRITTEN, a frame of DEPOT_LENGTH octets; refusals, the least that fits:
  *   5  a desk above 7, whatever the rest is
  *   6  a kind that is neither 0 nor 1; a control that is none of the fourteen; a write whose bytes_len is not DEPOT_BLOCK_SIZE;
- *      a number that its field can't hold, or that a logged-in desk would answer 0x11 (a password into RAM is answered 0x16, and made)
+ *      a number that its field can't hold, or that a logged-in desk would answer 0x11 (a password into RAM
+ *      is answered 0x16, and so it is made)
  *   7  the frame does not fit in out_len octets
  * Afterwards: made, the frame stands at the start of out and the octets behind it are as before; refused, out is as before.
  */

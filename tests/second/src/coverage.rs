@@ -191,9 +191,9 @@ impl Coverage {
         self.passwords(before, frame, status);
     }
 
-    /// RAM and EEPROM have two passwords from a write to EEPROM until a reset.
+    /// RAM and EEPROM have two passwords, as from a write to EEPROM until a reset.
     fn passwords(&mut self, before: &Desk, frame: &Frame, status: u8) {
-        let two = before.ram[0] != before.eeprom[0];
+        let two = before.ram[0][..4] != before.eeprom[0][..4];
         let all = frame.rest[0] & 0x7F == 0x40;
         let named = all || frame.rest[0] & 0x7F == 0;
         self.count_if(status == 0x16 && two, "0x81: 0x16, EEPROM has another password");

@@ -1,5 +1,5 @@
 -- `commands::tests::of_read` meets its contract. Assumes nothing.
-use mathlib.Core.Path.{sym, _∙_}
+use mathlib.Core.Path.{refl, sym, _∙_}
 use borrow.Author.Needs.{needs}
 use borrow.Author.Tests.{eq-eqb, ne-eqb}
 use Rattle.octets.specs.Tests.{first}
@@ -17,7 +17,7 @@ returns-2 : tie.Need-returns-2
 unfolding first rowTests said
 returns-2 c =
     let k = c .before .block-of .ensures .0 in
-    rw (passed (c .before .before .before .names-one .ensures) (c .before .before .if1 .left), eq-eqb _ 0 (sym k ∙ c .if2 .taken))
+    rw (passed (c .before .before .before .names-one .ensures) (c .before .before .if1 .left), eq-eqb _ 0 (sym k ∙ c .if2 .taken)) refl
 
 returns-3 : tie.Need-returns-3
 unfolding first rowTests said
