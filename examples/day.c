@@ -49,7 +49,10 @@ static void sight(uint64_t uid)
 {
     uint64_t code = depot_sighting(store, sizeof store, DESK, uid, 1);
     stop_if_refused("sighting", code);
-    puts(code == DEPOT_RECORDED ? "sighting: recorded" : code == DEPOT_LOST ? "sighting: lost" : "sighting: ignored");
+    if (DEPOT_IGNORED(code))
+        printf("sighting: ignored, %d ticks left\n", (int)DEPOT_TICKS_LEFT(code));
+    else
+        puts(code == DEPOT_RECORDED ? "sighting: recorded" : "sighting: lost");
     stop_if_refused("tick", depot_tick(store, sizeof store));
 }
 

@@ -62,7 +62,7 @@ extern "C" {
  *   0                        done, and there is nothing to say
  *   1 to 63                  refused, by the number in the paper
  *   64, 65                   a sighting: recorded, lost
- *   2^16 + ticks             a sighting: ignored. Today ticks is 0: it is kept for the ticks that the lock has left
+ *   2^16 + ticks             a sighting: ignored; the lock has so many ticks left, from 1 to VALID-TIME in force
  *   2^32 + s * 2^24 + a * 2^16 + n
  *                            what the reader found: status s, data of n octets from place a on
  *   2^63 + n                 n octets, or n numbers, stand at the start of the output
@@ -90,7 +90,8 @@ extern "C" {
 
 #define DEPOT_RECORDED 64
 #define DEPOT_LOST 65           /* the desk holds 64 records; the overflow mark is set */
-#define DEPOT_IGNORED(code) ((code) >> 16 == 1) /* the UID is locked at this desk */
+#define DEPOT_IGNORED(code) ((code) >> 16 == 1)             /* the UID is locked at this desk */
+#define DEPOT_TICKS_LEFT(code) ((uint16_t)((code) & 65535)) /* for so many ticks of 100 ms more, where DEPOT_IGNORED(code) */
 
 #define DEPOT_WRITTEN(code) ((code) >> 63 == 1)
 #define DEPOT_LENGTH(code) ((size_t)((code) & UINT64_C(0x7FFFFFFFFFFFFFFF)))
@@ -159,7 +160,9 @@ uint64_t depot_frame(uint8_t *store, size_t store_len, const uint8_t *frame, siz
  * A tag is sighted at a desk by the antennas of a mask from 1 to 255. Its UID is eight octets as one number, the first of them most
  * significant.
  * Answers: DEPOT_IGNORED(code), DEPOT_LOST, DEPOT_RECORDED; refusals 1, 5, 6 (a mask of 0 or above 255), the least that fits.
- * Afterwards: the store is sound and holds what the sighting did; refused, it is as before.
+ * An ignored one tells how long the tag is held back: DEPOT_TICKS_LEFT(code) is what its lock at this desk has left, VALID-TIME right
+ * after it was recorded, 1 before its last tick, never 0. Being ignored does not lengthen it.
+ * Afterwards: the store is sound and holds what the sighting did, which is nothing where it was ignored; refused, it is as before.
  */
 uint64_t depot_sighting(uint8_t *store, size_t store_len, uint64_t desk, uint64_t uid, uint64_t mask);
 

@@ -71,8 +71,8 @@ impl std::error::Error for Refusal {}
 /// What a sighting came to.
 #[derive(Clone, Copy, Debug, PartialEq, Eq, Hash)]
 pub enum Seen {
-    /// The UID is locked at this desk.
-    Ignored,
+    /// The UID is locked at this desk, for so many ticks more: from 1 to VALID-TIME in force. Nothing changes.
+    Ignored(u16),
     /// The desk holds 64 records, and its overflow mark is set.
     Lost,
     Recorded,
@@ -95,7 +95,7 @@ pub(crate) fn seen(code: u64) -> Result<Seen, Refusal> {
     match code {
         RECORDED => Ok(Seen::Recorded),
         LOST => Ok(Seen::Lost),
-        _ if code >> 16 == IGNORED >> 16 => Ok(Seen::Ignored),
+        _ if code >> 16 == IGNORED >> 16 => Ok(Seen::Ignored((code - IGNORED) as u16)),
         _ => Err(Refusal::of(code).unwrap_or_else(|| unnamed(code))),
     }
 }

@@ -33,7 +33,7 @@ pub const RECORDED: u64 = 64;
 /// A sighting was lost.
 pub const LOST: u64 = 65;
 
-/// A sighting was ignored; room is kept behind this number for the ticks that the lock has left.
+/// A sighting was ignored: this and the ticks that the lock has left, from 1 to VALID-TIME in force.
 pub const IGNORED: u64 = 1 << 16;
 
 /// What the reader found: this and status * 2^24 + start * 2^16 + len.

@@ -51,8 +51,9 @@ pub fn sound(octets: &[u8]) -> Result<(), Refusal> {
 /// let mut store = Store::fresh();
 /// let mask = NonZeroU8::new(1).unwrap();
 /// assert_eq!(store.sighting(Desk::ALL[3], 0xE007_0000_0164_5E37, mask), Seen::Recorded);
-/// assert_eq!(store.sighting(Desk::ALL[3], 0xE007_0000_0164_5E37, mask), Seen::Ignored);
+/// assert_eq!(store.sighting(Desk::ALL[3], 0xE007_0000_0164_5E37, mask), Seen::Ignored(55));
 /// store.tick();
+/// assert_eq!(store.sighting(Desk::ALL[3], 0xE007_0000_0164_5E37, mask), Seen::Ignored(54));
 /// ```
 #[derive(Clone, PartialEq, Eq)]
 pub struct Store<B: DerefMut<Target = [u8]>> {

@@ -101,7 +101,7 @@ fn frame_refuses() {
 fn sighting_is_recorded_ignored_lost() {
     let mut s = fresh();
     assert_eq!(raw::sighting(&mut s, 7, UID, 255), RECORDED);
-    assert_eq!(raw::sighting(&mut s, 7, UID, 255), IGNORED);
+    assert_eq!(raw::sighting(&mut s, 7, UID, 255), IGNORED + 55);
     for i in 1..64 {
         assert_eq!(raw::sighting(&mut s, 7, i, 1), RECORDED);
     }
@@ -124,11 +124,12 @@ fn sighting_refuses() {
 fn tick_ends_a_lock() {
     let mut s = fresh();
     assert_eq!(raw::sighting(&mut s, 0, UID, 1), RECORDED);
-    for _ in 0..54 {
+    for left in (1..=55).rev() {
+        let before = s.clone();
+        assert_eq!(raw::sighting(&mut s, 0, UID, 1), IGNORED + left);
+        assert_eq!(s, before);
         assert_eq!(raw::tick(&mut s), DONE);
     }
-    assert_eq!(raw::sighting(&mut s, 0, UID, 1), IGNORED);
-    assert_eq!(raw::tick(&mut s), DONE);
     assert_eq!(raw::sighting(&mut s, 0, UID, 1), RECORDED);
     box_refuses(&guard(STORE_SIZE), 0, Refusal::Unsound, |s, _| raw::tick(s));
 }

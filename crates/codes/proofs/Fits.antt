@@ -1,5 +1,5 @@
 -- The numbers of sightings and of lengths fit 64 bits. Assumes nothing.
-use Prim.Native.Nat.{ℕ, _^_, _≤_, _<_}
+use Prim.Native.Nat.{ℕ, _^_, _<_}
 use mathlib.Core.Path.{_≡_, refl}
 use mathlib.Core.List.{List}
 use mathlib.Core.Option.{Option, none, some}
@@ -10,12 +10,13 @@ use Rattle.rules.specs.declared.Seen.{Seen}
 use Rattle.rules.specs.declared.Seen.the-variants.{Ignored, Lost, Recorded}
 use Rattle.rules.specs.declared.Written.{Written}
 use Rattle.rules.specs.Output.{Wrote}
+use Rattle.rules.proofs.TicksLeft.{TicksFit}
 use Rattle.codes.specs.Codes.{seenCode, writtenCode}
 
-pub seen-small : (w : Seen) → seenCode w ≤ 2 ^ 16
-seen-small Ignored = omega arith
-seen-small Lost = omega arith
-seen-small Recorded = omega arith
+pub seen-small : (w : Seen) → TicksFit w → seenCode w < 2 ^ 17
+seen-small (Ignored n) h = omega arith
+seen-small Lost h = omega arith
+seen-small Recorded h = omega arith
 
 -- ---- octets in a lent output, which has fewer than 2^63
 

@@ -31,7 +31,7 @@ done = range 0 1
 abbrev pub refused : Range
 refused = range 1 63
 
--- a sighting: recorded, lost; ignored, with room for the ticks left
+-- a sighting: recorded, lost; ignored, with the ticks left
 abbrev pub sighted : Range
 sighted = range 64 2
 
@@ -90,7 +90,7 @@ rangeAt i = getD ranges i done
 abbrev pub seenCode : Seen → ℕ
 seenCode Recorded = sighted .from
 seenCode Lost = sighted .from + 1
-seenCode Ignored = ignored .from
+seenCode (Ignored left) = ignored .from + left
 
 -- the maker and the line writer
 abbrev pub writtenCode : Written → ℕ

@@ -29,7 +29,7 @@ pub fn seen_code(w: Seen) -> u64
     ensures { λ r. ⌜ r ≡ seenCode w ⌝ }
 {
     match w {
-        Seen::Ignored => IGNORED,
+        Seen::Ignored(left) => IGNORED + left as u64,
         Seen::Lost => LOST,
         Seen::Recorded => RECORDED,
     }

@@ -89,9 +89,9 @@ module _ (a b c : Answer) (x y z s : List ℕ) where
       omega arith
 
 -- ignores every sighting
-pub ignores-sightings : (a : Answer) (o s : List ℕ) → History (deed (sighting 0 7 1) a o ∷ []) s → a ≡ Sighted Ignored → ⊥
+pub ignores-sightings : (a : Answer) (o s : List ℕ) (n : ℕ) → History (deed (sighting 0 7 1) a o ∷ []) s → a ≡ Sighted (Ignored n) → ⊥
 unfolding computed concerns answersOf heardBy
-ignores-sightings a o s h e =
+ignores-sightings a o s n h e =
     let f : heard a o ≡ seen Recorded = ap (heardAt 0) (came (deed (sighting 0 7 1) a o ∷ []) s h (seen Recorded ∷ []) refl) in
     let z : _≡_ {A = ℕ} 0 1 = cc in
     omega arith

@@ -4,3 +4,4 @@ pub mod Writes
 pub mod Short
 pub mod Alone
 pub mod Steps
+pub mod HeldBack

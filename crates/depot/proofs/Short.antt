@@ -1,4 +1,4 @@
--- No answer is a reply longer than the reply room. Assumes nothing.
+-- No answer is a reply longer than the reply room, and none tells more ticks than two octets hold. Assumes nothing.
 use Prim.Native.Nat.{ℕ, _≤_}
 use mathlib.Core.Path.{_≡_, refl}
 use mathlib.Core.Bool.{Bool, true, false, cond}
@@ -19,6 +19,7 @@ use Rattle.rules.specs.Desk.{Desk}
 use Rattle.rules.specs.Box.{Box, Event, frame, sighting, tick, Answer as RuleAnswer, refused, reply, seen, ok, Step, step, request, served, sighted, deskAt, placed, unlessRefused, frameRefusals, sightingRefusals}
 use Rattle.rules.proofs.Facts.{DeskLegal}
 use Rattle.rules.proofs.Replies.{obey-carried}
+use Rattle.rules.proofs.TicksLeft.{TicksFit, ticks-fit}
 use Rattle.store.specs.Sound.{sound}
 use Rattle.store.specs.View.{view}
 use Rattle.views.proofs.LegalView.{desk-of-view}
@@ -32,7 +33,7 @@ use Rattle.depot.specs.Called.{Called, stepOn}
 abbrev pub Brief : RuleAnswer → Type 0
 Brief (refused r) = Unit {0}
 Brief (reply t) = length t ≤ replyRoom
-Brief (seen w) = Unit {0}
+Brief (seen w) = TicksFit w
 Brief ok = Unit {0}
 
 -- a step's answer is brief where what it gives unless it is refused is brief
@@ -68,16 +69,17 @@ frame-brief f s room e =
     let n = request f .address in
     unless-brief (first (frameRefusals f room)) (view s) (placed (view s) n (served f (deskAt (view s) n))) (served-brief f (deskAt (view s) n) (desk-of-view s n e))
 
-sighting-brief : (n uid mask : ℕ) (s : List ℕ) → Brief (step (view s) (sighting n uid mask) .answer)
+sighting-brief : (n uid mask : ℕ) (s : List ℕ) → sound s ≡ true → Brief (step (view s) (sighting n uid mask) .answer)
 unfolding step placed sighted
-sighting-brief n uid mask s = unless-brief (first (sightingRefusals n mask)) (view s) (placed (view s) n (sighted uid mask (deskAt (view s) n))) tt
+sighting-brief n uid mask s e =
+    unless-brief (first (sightingRefusals n mask)) (view s) (placed (view s) n (sighted uid mask (deskAt (view s) n))) (ticks-fit uid (deskAt (view s) n) (desk-of-view s n e))
 
 -- ---- of a call's
 
 ended-short : (t : RuleAnswer) (box : Box) (s out : List ℕ) (a : Answer) (s′ out′ : List ℕ) → Brief t → Ended t box s out a s′ out′ → Short a
 ended-short (refused n) box s out a s′ out′ h e = rw (e .0 .answer-is) tt
 ended-short (reply t) box s out a s′ out′ h e = rw (e .0) h
-ended-short (seen w) box s out a s′ out′ h e = rw (e .0) tt
+ended-short (seen w) box s out a s′ out′ h e = rw (e .0) h
 ended-short ok box s out a s′ out′ h e = rw (e .0) tt
 
 module _ (s out : List ℕ) (a : Answer) (s′ out′ : List ℕ) where
@@ -88,7 +90,7 @@ module _ (s out : List ℕ) (a : Answer) (s′ out′ : List ℕ) where
   frame-short f room c = called-short (frame f room) (frame-brief f s room) c
 
   pub sighting-short : (n uid mask : ℕ) → Called (sighting n uid mask) s out a s′ out′ → Short a
-  sighting-short n uid mask c = called-short (sighting n uid mask) (λ _. sighting-brief n uid mask s) c
+  sighting-short n uid mask c = called-short (sighting n uid mask) (sighting-brief n uid mask s) c
 
   pub tick-short : Called tick s out a s′ out′ → Short a
   unfolding step

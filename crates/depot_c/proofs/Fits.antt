@@ -16,7 +16,7 @@ use Rattle.depot_c.specs.Coded.{codeOf}
 answer-fits : (a : Answer) → Short a → codeOf a < 2 ^ 64
 answer-fits (Answer.Refused r) h = omega (arith, number-small r)
 answer-fits (Answer.Reply n) h = omega arith
-answer-fits (Answer.Sighted w) h = omega (arith, seen-small w)
+answer-fits (Answer.Sighted w) h = omega (arith, seen-small w h)
 answer-fits Answer.Done h = omega arith
 
 pub frame-fits : (f s : List ℕ) (room : ℕ) (out : List ℕ) (a : Answer) (s′ out′ : List ℕ) → Called (frame f room) s out a s′ out′ → codeOf a < 2 ^ 64

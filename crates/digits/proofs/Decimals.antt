@@ -1,16 +1,17 @@
 -- A number in decimal: how many digits it has, and how they are written. Assumes nothing.
-use Prim.Native.Nat.{ℕ, zero, suc, _+_, _-_, _/_, _%_, _≤_, _<_}
+use Prim.Native.Nat.{ℕ, zero, suc, _+_, _-_, _*_, _/_, _%_, _^_, _≤_, _<_}
 use mathlib.Core.Path.{_≡_, refl, _∙_}
 use mathlib.Core.Bool.{Bool, true, false, cond}
 use mathlib.Core.Logic.{inr}
-use mathlib.Core.List.{List, [], _∷_}
+use mathlib.Core.List.{List, [], _∷_, _++_}
+use native.Mathlib.Nat.{pow-suc, div-lt-iff-lt-mul}
 use native.Mathlib.Omega.{arith}
-use borrow.Author.Tests.{lt-ltb, le-ltb}
-use lib.Dec.{ltb}
+use borrow.Author.Tests.{lt-ltb, le-ltb, ltb-true}
+use lib.Dec.{ltb, lit<}
 use lib.ListN.{length, set, length-append}
 use Rattle.octets.specs.Parts.{put}
 use Rattle.octets.proofs.Puts.{put-append, put-comm, put-one}
-use Rattle.digits.specs.Digits.{lastDigits, placesOf, decimalOf}
+use Rattle.digits.specs.Digits.{lastDigits, placesOf, decimalOf, saidBy}
 
 -- no leading zeros: 0, 9, 10, 255, 65535
 pub samples : (decimalOf 0 ≡ (0x30 ∷ [])) × (decimalOf 9 ≡ (0x39 ∷ [])) × (decimalOf 10 ≡ (0x31 ∷ 0x30 ∷ [])) × (decimalOf 255 ≡ (0x32 ∷ 0x35 ∷ 0x35 ∷ []))
@@ -77,3 +78,29 @@ last-more at (suc i) n out h =
     let l : length front ≡ i = last-length i (n / 10) in
     let less : suc i - 1 ≡ i = omega arith in
     put-append at front back out ∙ put-comm (at + length front) back at front out (inr (omega arith)) ∙ rw (put-one, l, less)
+
+-- ---- read back
+
+said-more : (n : ℕ) (s : List ℕ) (c : ℕ) → saidBy n (s ++ (c ∷ [])) ≡ saidBy n s * 10 + (c - 0x30)
+unfolding saidBy
+said-more n [] c = refl
+said-more n (b ∷ s) c = said-more (n * 10 + (b - 0x30)) s c
+
+said-last : (k n : ℕ) → n < 10 ^ k → saidBy 0 (lastDigits k n) ≡ n
+unfolding saidBy lastDigits
+said-last zero n h = omega arith
+said-last (suc k) n h =
+    let small : n / 10 < 10 ^ k = div-lt-iff-lt-mul (lit< tt) .1 (rw pow-suc at h) in
+    said-more 0 (lastDigits k (n / 10)) (0x30 + n % 10) ∙ rw (said-last k (n / 10) small) (omega arith)
+
+-- the digits say the number
+pub decimal-said : (n : ℕ) → n < 100000 → saidBy 0 (decimalOf n) ≡ n
+unfolding decimalOf placesOf
+decimal-said n h = said-last (placesOf n) n (fits (ltb n 10) (ltb n 100) (ltb n 1000) (ltb n 10000) refl refl refl refl)
+  where
+    fits : (a b c d : Bool) → ltb n 10 ≡ a → ltb n 100 ≡ b → ltb n 1000 ≡ c → ltb n 10000 ≡ d → n < 10 ^ placesOf n
+    fits true b c d p q r t = rw p (ltb-true n 10 p)
+    fits false true c d p q r t = rw (p, q) (ltb-true n 100 q)
+    fits false false true d p q r t = rw (p, q, r) (ltb-true n 1000 r)
+    fits false false false true p q r t = rw (p, q, r, t) (ltb-true n 10000 t)
+    fits false false false false p q r t = rw (p, q, r, t) h

@@ -41,3 +41,8 @@ placesOf n = cond (ltb n 10) 1 (cond (ltb n 100) 2 (cond (ltb n 1000) 3 (cond (l
 -- a number in decimal, without leading zeros
 unfoldable pub decimalOf : ℕ → List ℕ
 decimalOf n = lastDigits (placesOf n) n
+
+-- the number that decimal digits say, behind a number that those before them said
+unfoldable pub saidBy : ℕ → List ℕ → ℕ
+saidBy n [] = n
+saidBy n (c ∷ s) = saidBy (n * 10 + (c - 0x30)) s

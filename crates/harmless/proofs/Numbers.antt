@@ -30,7 +30,7 @@ use Rattle.host_c.specs.Coded.{readCode, WroteAs}
 answer-refused : (a : Answer) (n : ℕ) → n ≡ codeOf a → In refused n → (r : Refusal) × (a ≡ Answer.Refused r) × (n ≡ numberOf r)
 answer-refused (Answer.Refused r) n e h = (r, refl, e)
 answer-refused (Answer.Reply k) n e h = absurd (omega (arith, h .0, h .1))
-answer-refused (Answer.Sighted Ignored) n e h = absurd (omega (arith, h .0, h .1))
+answer-refused (Answer.Sighted (Ignored k)) n e h = absurd (omega (arith, h .0, h .1))
 answer-refused (Answer.Sighted Lost) n e h = absurd (omega (arith, h .0, h .1))
 answer-refused (Answer.Sighted Recorded) n e h = absurd (omega (arith, h .0, h .1))
 answer-refused Answer.Done n e h = absurd (omega (arith, h .0, h .1))

@@ -5,7 +5,7 @@ use mathlib.Core.List.{List, [], _∷_, _++_}
 use mathlib.Core.Bool.{Bool, true, false, cond, not}
 use native.Mathlib.Omega.{arith}
 use lib.Dec.{eqb, ltb, leb, lit<}
-use borrow.Author.Tests.{ltb-true, leb-true, eqb-false, le-leb, ne-eqb, not-true}
+use borrow.Author.Tests.{ltb-true, leb-true, eqb-true, eqb-false, le-leb, ne-eqb, not-true}
 use lib.ListN.{length, drop, length-append, length-drop}
 use Rattle.octets.specs.Tests.{allOf}
 use Rattle.octets.proofs.Tests.{both, and-left, and-right, and-both, or-left, or-right}
@@ -156,12 +156,12 @@ append-distinct (k ∷ ls) l p q = (
   append-distinct ls l (p .1) (unlocked-tail (l .uid) k ls q),
 )
 
--- a rule of lists that holds where there is room, and of the list without its oldest, holds with the new lock
+-- a rule of lists that holds where no lock is added, where there is room, and of the list without its oldest, holds with the new lock
 module _ (P : List Lock → Type 0) (uid valid : ℕ) where
-  pub added-keeps : (ls : List Lock) → P ls → (1 ≤ valid → length ls < mostLocks → P (ls ++ (record { uid = uid; left = valid } ∷ [])))
+  pub added-keeps : (ls : List Lock) → (valid ≡ 0 → P ls) → (1 ≤ valid → length ls < mostLocks → P (ls ++ (record { uid = uid; left = valid } ∷ [])))
       → (1 ≤ valid → P (drop 1 ls ++ (record { uid = uid; left = valid } ∷ []))) → P (added uid valid ls)
   unfolding added madeRoom
-  added-keeps ls p room full = go (eqb valid 0) refl
+  added-keeps ls none room full = go (eqb valid 0) refl
     where
       positive : (valid ≡ 0 → ⊥) → 1 ≤ valid
       positive n = omega arith
@@ -171,7 +171,7 @@ module _ (P : List Lock → Type 0) (uid valid : ℕ) where
       made false t h = full h
 
       go : (b : Bool) → eqb valid 0 ≡ b → P (cond b ls (cond (ltb (length ls) mostLocks) ls (drop 1 ls) ++ (record { uid = uid; left = valid } ∷ [])))
-      go true t = p
+      go true t = none (eqb-true valid 0 t)
       go false t = made (ltb (length ls) mostLocks) refl (positive (eqb-false valid 0 t))
 
 module _ (valid uid : ℕ) where
@@ -191,18 +191,18 @@ module _ (valid uid : ℕ) where
 
   pub added-legal : (ls : List Lock) → LocksLegal valid ls → locked uid ls ≡ false → LocksLegal valid (added uid valid ls)
   added-legal ls p e =
-      added-keeps (LocksLegal valid) uid valid ls p
+      added-keeps (LocksLegal valid) uid valid ls (λ z. p)
       (λ v h. snoc-legal ls v h (p .each) (p .distinct) e)
       (λ v. full-legal ls v p e)
 
   pub added-fit : (ls : List Lock) → LockFits new → All LockFits ls → All LockFits (added uid valid ls)
   added-fit ls f p =
-      added-keeps (All LockFits) uid valid ls p
+      added-keeps (All LockFits) uid valid ls (λ z. p)
       (λ v h. all-append LockFits ls (new ∷ []) p (f, tt))
       (λ v. all-append LockFits (drop 1 ls) (new ∷ []) (all-drop LockFits 1 ls p) (f, tt))
 
   pub added-few : (ls : List Lock) → length ls ≤ mostLocks → length (added uid valid ls) ≤ mostLocks
   added-few ls h =
-      added-keeps (λ (ks : List Lock). length ks ≤ mostLocks) uid valid ls h
+      added-keeps (λ (ks : List Lock). length ks ≤ mostLocks) uid valid ls (λ z. h)
       (λ v r. simp length-append (omega arith))
       (λ v. simp (length-append, length-drop) (omega arith))

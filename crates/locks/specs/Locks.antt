@@ -57,6 +57,14 @@ isFound Nothing = false
 abbrev pub locked : ℕ → List Lock → Bool
 locked uid ls = isFound (foundIn uid ls)
 
+abbrev pub leftOf : Found → ℕ
+leftOf (At k left) = left
+leftOf Nothing = 0
+
+-- the ticks that the lock of that UID has left; 0 where none stands
+abbrev pub ticksLeft : ℕ → List Lock → ℕ
+ticksLeft uid ls = leftOf (foundIn uid ls)
+
 -- ---- a new lock
 
 abbrev pub mostLocks : ℕ

@@ -61,9 +61,9 @@ fn code(a: Answer) -> usize {
         Answer::Reply(n) => n,
         Answer::Refused(r) => 1000 + r.number() as usize,
         Answer::Sighted(s) => match s {
-            Seen::Ignored => 2000,
             Seen::Lost => 2001,
             Seen::Recorded => 2002,
+            Seen::Ignored(left) => 4000 + left as usize,
         },
         Answer::Done => 2003,
     }

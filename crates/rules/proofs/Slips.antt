@@ -8,7 +8,7 @@ use Rattle.frame.specs.declared.Kind.the-variants.{Standard}
 use Rattle.frame.specs.Shape.{replyRoom}
 use Rattle.frame.specs.Sealed.{frameOf}
 use Rattle.octets.specs.Numbers.{octets}
-use Rattle.locks.specs.Locks.{locked}
+use Rattle.locks.specs.Locks.{locked, ticksLeft}
 use Rattle.rules.specs.declared.Seen.the-variants.{Ignored, Recorded}
 use Rattle.rules.specs.Desk.{Desk}
 use Rattle.rules.specs.Sighting.{seenAs, afterSeen}
@@ -26,7 +26,7 @@ abbrev pub zeros : ℕ → List ℕ
 zeros n = replicate n 0
 
 -- a tag that is locked at one desk is recorded at another
-pub lock-of-a-desk : run freshBox (sighting 0 7 1 ∷ sighting 1 7 1 ∷ sighting 0 7 1 ∷ []) ≡ seen Recorded ∷ seen Recorded ∷ seen Ignored ∷ []
+pub lock-of-a-desk : run freshBox (sighting 0 7 1 ∷ sighting 1 7 1 ∷ sighting 0 7 1 ∷ []) ≡ seen Recorded ∷ seen Recorded ∷ seen (Ignored 55) ∷ []
 unfolding computed
 lock-of-a-desk = refl
 
@@ -49,19 +49,19 @@ unsaved-password = refl
 -- VALID-TIME 1 written to EEPROM: a lock still lasts 55 ticks; after 0x63 one tick
 pub valid-time-at-reset :
     run freshBox (ask 0xA0 (zeros 4) ∷ ask 0x81 (0x8C ∷ 0 ∷ 1 ∷ zeros 12) ∷ sighting 0 7 1 ∷ tick ∷ sighting 0 7 1 ∷ ask 0x63 [] ∷ sighting 0 7 1 ∷ tick ∷ sighting 0 7 1 ∷ [])
-    ≡ told 0xA0 0x00 [] ∷ told 0x81 0x00 [] ∷ seen Recorded ∷ ok ∷ seen Ignored ∷ told 0x63 0x00 [] ∷ seen Recorded ∷ ok ∷ seen Recorded ∷ []
+    ≡ told 0xA0 0x00 [] ∷ told 0x81 0x00 [] ∷ seen Recorded ∷ ok ∷ seen (Ignored 54) ∷ told 0x63 0x00 [] ∷ seen Recorded ∷ ok ∷ seen Recorded ∷ []
 unfolding computed
 valid-time-at-reset = refl
 
 -- a locked sighting sets no mark: 0x22 answers 0x00 and not 0x93
 pub locked-sets-no-mark :
     run freshBox (sighting 0 7 1 ∷ sighting 0 7 1 ∷ ask 0x22 (0 ∷ 1 ∷ []) ∷ [])
-    ≡ seen Recorded ∷ seen Ignored ∷ told 0x22 0x00 (octets 2 1 ++ octets 8 7 ++ zeros 4 ++ (1 ∷ [])) ∷ []
+    ≡ seen Recorded ∷ seen (Ignored 55) ∷ told 0x22 0x00 (octets 2 1 ++ octets 8 7 ++ zeros 4 ++ (1 ∷ [])) ∷ []
 unfolding computed
 locked-sets-no-mark = refl
 
 -- a sighting of a locked tag changes nothing, and is ignored, also where 64 records are held: rule 1 comes before rule 2
-pub locked-changes-nothing : (uid mask : ℕ) (d : Desk) → locked uid (d .locks) ≡ true → sighted uid mask d ≡ record { answer = seen Ignored; desk = d }
+pub locked-changes-nothing : (uid mask : ℕ) (d : Desk) → locked uid (d .locks) ≡ true → sighted uid mask d ≡ record { answer = seen (Ignored (ticksLeft uid (d .locks))); desk = d }
 unfolding sighted seenAs afterSeen
 locked-changes-nothing uid mask d e = rw e
 

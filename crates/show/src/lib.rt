@@ -108,7 +108,10 @@ fn reply(out: &[u8], n: usize) {
 
 fn seen(s: Seen) {
     match s {
-        Seen::Ignored => word(b"ignored"),
+        Seen::Ignored(left) => {
+            word(b"ignored ");
+            number(left as u64);
+        }
         Seen::Lost => word(b"lost"),
         Seen::Recorded => word(b"recorded"),
     }
@@ -226,7 +229,7 @@ fn recorded(a: Answer) -> u64
         Answer::Sighted(s) => match s {
             Seen::Recorded => 1,
             Seen::Lost => 0,
-            Seen::Ignored => 0,
+            Seen::Ignored(_) => 0,
         },
         Answer::Refused(_) => 0,
         Answer::Reply(_) => 0,

@@ -6,7 +6,8 @@ use mathlib.Core.List.{List}
 use lib.ListN.{length}
 use borrow.Author.Tests.{lt-ltb, le-ltb}
 use Rattle.octets.specs.Each.{Octet}
-use Rattle.locks.specs.Locks.{locked}
+use Rattle.locks.specs.declared.Found.the-variants.{At}
+use Rattle.locks.specs.Locks.{foundIn, locked}
 use Rattle.table.specs.Entries.{desks, share}
 use Rattle.rules.specs.declared.Seen.{Seen}
 use Rattle.rules.specs.declared.Seen.the-variants.{Ignored, Lost, Recorded}
@@ -32,9 +33,9 @@ pub record Recording (d uid mask : ℕ) (r s : List ℕ) : Type 0 where
   pub ends : (s′ s″ : List ℕ) → Says d (onTable (withRecord r) (kept d s)) s s′ → Says d (doneBy (Lock uid) (kept d s′)) s′ s″ → Sighted d uid mask Recorded s s″
 
 module _ (s : List ℕ) (e : sound s ≡ true) (d : ℕ) (h : d < desks) (uid mask : ℕ) where
-  pub ignored : locked uid (kept d s .locks) ≡ true → Sighted d uid mask Ignored s s
+  pub ignored : (at left : ℕ) → foundIn uid (kept d s .locks) ≡ At at left → Sighted d uid mask (Ignored left) s s
   unfolding seenAs afterSeen
-  ignored q = record { seen-is = rw q; says = unchanged s e d h }
+  ignored at left q = record { seen-is = rw q; says = unchanged s e d h }
 
   module _ (small : uid < 2 ^ 64) (octet : Octet mask) (free : locked uid (kept d s .locks) ≡ false) where
     after-legal : (w : Seen) → w ≡ seenAs uid (kept d s) → deskLegal (afterSeen w uid mask (kept d s)) ≡ true

@@ -42,13 +42,13 @@ fn unlocked(s: &mut [u8], d: usize, uid: u64, mask: u8) -> Seen
     Seen::Recorded
 }
 
-// The first rule that fits: ignored, lost, recorded.
+// The first rule that fits: ignored, with the ticks that the lock has left; lost; recorded.
 pub fn sight(s: &mut [u8], d: usize, uid: u64, mask: u8) -> Seen
     requires { ⌜ (sound (now s) ≡ true) × (d < desks) ⌝ }
     ensures { λ r. ⌜ Sighted d uid mask r (now (s .entry)) (now (s .exit)) ⌝ }
 {
     match keeping::lock_of(s, d, uid) {
-        Found::At(_, _) => Seen::Ignored,
+        Found::At(_, left) => Seen::Ignored(left),
         Found::Nothing => unlocked(s, d, uid, mask),
     }
 }

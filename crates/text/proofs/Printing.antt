@@ -45,7 +45,7 @@ pub printed-short : (a : Answer) (reply : List ℕ) → Short a → length (prin
 unfolding printed refusedLine seenLine okLine
 printed-short (Refused r) reply h = omega (arith, number-line-length (0x72 ∷ 0x65 ∷ 0x66 ∷ 0x75 ∷ 0x73 ∷ 0x65 ∷ 0x64 ∷ 0x20 ∷ []) (numberOf r), places-most (numberOf r))
 printed-short (Reply n) reply h = omega (arith, hex-line-length (take n reply), length-take n reply)
-printed-short (Sighted Ignored) reply h = omega arith
+printed-short (Sighted (Ignored n)) reply h = omega (arith, number-line-length (0x69 ∷ 0x67 ∷ 0x6E ∷ 0x6F ∷ 0x72 ∷ 0x65 ∷ 0x64 ∷ 0x20 ∷ []) n, places-most n)
 printed-short (Sighted Lost) reply h = omega arith
 printed-short (Sighted Recorded) reply h = omega arith
 printed-short Done reply h = omega arith

@@ -24,7 +24,7 @@ linesFrom begun (c ∷ input) = cond (eqb c lf) (begun ∷ linesFrom [] input) (
 
 -- ---- what a line prints
 
--- the reply in capital hex, `refused N`, `ok`, `recorded`, `ignored`, `lost`
+-- the reply in capital hex, `refused N`, `ok`, `recorded`, `ignored N`, `lost`
 unfoldable pub answerLine : Answer → List ℕ
 answerLine (refused n) = refusedLine n
 answerLine (reply t) = hexLine t

@@ -56,7 +56,7 @@ fn say_seen(seen: Seen, out: &mut [u8]) -> usize
     ensures { λ r. ⌜ Printed (seenLine seen) (now (out .entry)) r (now (out .exit)) ⌝ }
 {
     match seen {
-        Seen::Ignored => say(b"ignored\n", out),
+        Seen::Ignored(left) => say_number(b"ignored ", left, out),
         Seen::Lost => say(b"lost\n", out),
         Seen::Recorded => say(b"recorded\n", out),
     }

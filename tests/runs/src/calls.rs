@@ -77,12 +77,22 @@ pub fn done_code(done: Result<(), Refusal>) -> u64 {
     done.map_or_else(refused, |()| DONE)
 }
 
-fn seen_code(seen: Result<Seen, Refusal>) -> u64 {
+pub fn seen_code(seen: Result<Seen, Refusal>) -> u64 {
     seen.map_or_else(refused, |seen| match seen {
-        Seen::Ignored => IGNORED,
+        Seen::Ignored(left) => IGNORED + u64::from(left),
         Seen::Lost => LOST,
         Seen::Recorded => RECORDED,
     })
+}
+
+/// The name of an ignored sighting, by its ticks.
+fn ignored(left: u64) -> &'static str {
+    match left {
+        1 => "ignored, one tick left",
+        256..65535 => "ignored, more than 255 ticks left",
+        65535 => "ignored, 65535 ticks left",
+        _ => "ignored",
+    }
 }
 
 /// The name of a code.
@@ -92,7 +102,7 @@ pub fn outcome(code: u64) -> String {
         1..64 => format!("refused {code}"),
         RECORDED => "recorded".into(),
         LOST => "lost".into(),
-        IGNORED => "ignored".into(),
+        IGNORED..TOLD => ignored(code - IGNORED).into(),
         WRITTEN.. => "written".into(),
         _ => format!("status {:#04X}", (code - TOLD) >> 24),
     }

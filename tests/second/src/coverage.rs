@@ -3,7 +3,7 @@
 use crate::command::{fitting, known};
 use crate::frame::{judge_request, Frame, Kind, Refusal};
 use crate::listing::{event, serve, Answer, Event};
-use crate::model::{Depot, Desk, Seen, DESKS, LOCKS, TAB_SIZE};
+use crate::model::{Depot, Desk, Seen, Uid, DESKS, LOCKS, TAB_SIZE};
 use crate::situations::{self, not_read_shape};
 use crate::tally::Tally;
 
@@ -11,6 +11,10 @@ pub struct Coverage {
     depot: Depot,
     tally: Tally,
     last_control: [u8; DESKS],
+    /// The UIDs whose locks ended with the last tick.
+    ended: [Vec<Uid>; DESKS],
+    /// The reset that took another VALID-TIME, while it is in force.
+    taken_by: [u8; DESKS],
 }
 
 impl Coverage {
@@ -20,6 +24,8 @@ impl Coverage {
             depot: Depot::fresh(),
             tally: Tally::new(situations::required().into_iter().map(|name| (name, 1))),
             last_control: [0; DESKS],
+            ended: Default::default(),
+            taken_by: [0; DESKS],
         }
     }
 
@@ -47,8 +53,9 @@ impl Coverage {
     fn tick(&mut self) {
         let before = self.depot.clone();
         self.depot.tick();
-        for (old, new) in before.desks.iter().zip(&self.depot.desks.clone()) {
+        for (at, (old, new)) in before.desks.iter().zip(&self.depot.desks.clone()).enumerate() {
             let ended = new.locks.len() < old.locks.len();
+            self.ended[at] = old.locks.iter().filter(|lock| lock.left == 1).map(|lock| lock.uid).collect();
             self.count_if(ended, "tick: a lock ended");
             self.count_if(ended && !new.locks.is_empty(), "tick: a lock ended and others stand");
             self.count_if(ended && old.valid_time == 1, "tick: a lock of one tick ended");
@@ -62,7 +69,7 @@ impl Coverage {
         }
     }
 
-    fn sighting(&mut self, desk: u8, uid: [u8; 8], mask: u8) {
+    fn sighting(&mut self, desk: u8, uid: Uid, mask: u8) {
         let before = self.depot.clone();
         match self.depot.sighting(u64::from(desk), uid, mask) {
             Ok(seen) => self.seen(&before, usize::from(desk), uid, seen),
@@ -72,7 +79,7 @@ impl Coverage {
         }
     }
 
-    fn seen(&mut self, before: &Depot, at: usize, uid: [u8; 8], seen: Seen) {
+    fn seen(&mut self, before: &Depot, at: usize, uid: Uid, seen: Seen) {
         let desk = &before.desks[at];
         let locked = |other: &Desk| other.locks.iter().any(|lock| lock.uid == uid);
         let elsewhere = (0..DESKS).any(|other| other != at && locked(&before.desks[other]));
@@ -80,10 +87,14 @@ impl Coverage {
         let given_way = desk.locks.len() == LOCKS && desk.valid_time > 0;
         let again = desk.records.iter().any(|record| record[..8] == uid);
         let pending = crate::blocks::valid_time(&desk.eeprom[12]) != desk.valid_time;
-        self.count(&format!("sighting: {}", format!("{seen:?}").to_lowercase()));
         match seen {
-            Seen::Ignored => self.count_if(full && !desk.mark, "sighting: ignored, 64 held, no mark"),
+            Seen::Ignored(left) => {
+                self.count("sighting: ignored");
+                self.count_if(full && !desk.mark, "sighting: ignored, 64 held, no mark");
+                self.ignored(before, at, uid, left);
+            }
             Seen::Lost => {
+                self.count("sighting: lost");
                 self.count_if(!desk.mark, "mark set");
                 self.count_if(desk.mark, "sighting: lost again");
                 self.count_if(elsewhere, "sighting: lost, locked at another desk");
@@ -91,6 +102,8 @@ impl Coverage {
                 self.count_if(all, "sighting: lost, 512 records held");
             }
             Seen::Recorded => {
+                self.count("sighting: recorded");
+                self.count_if(self.ended[at].contains(&uid), "sighting: recorded, its lock ended with the last tick");
                 self.count_if(given_way, "sighting: the oldest lock gave way");
                 self.count_if(desk.valid_time == 0, "sighting: recorded, VALID-TIME 0");
                 self.count_if(desk.valid_time == 65535, "sighting: recorded, VALID-TIME 65535");
@@ -101,6 +114,27 @@ impl Coverage {
                 self.count_if(desk.due > 0, "sighting: recorded after a 0x22");
             }
         }
+    }
+
+    fn ignored(&mut self, before: &Depot, at: usize, uid: Uid, left: u16) {
+        let valid = before.desks[at].valid_time;
+        let name = |what: &str| format!("sighting: ignored, {what}");
+        self.count_if(left == valid, &name("all ticks left"));
+        self.count_if(left + 1 == valid, &name("one tick passed"));
+        self.count_if(left == 1, &name("one tick left"));
+        self.count_if(left > 255 && left != valid, &name("more than 255 ticks left"));
+        self.count_if(left >= 65534, &name(&format!("{left} ticks left")));
+        self.count_if(valid == 1, &name("VALID-TIME 1"));
+        self.count_if(self.taken_by[at] > 0, &name(&format!("VALID-TIME taken by {:#04X}", self.taken_by[at])));
+        let pending = crate::blocks::valid_time(&before.desks[at].eeprom[12]) != valid;
+        self.count_if(pending, &name("new VALID-TIME not in force"));
+        let others = (0..DESKS).filter(|&other| other != at).flat_map(|other| &before.desks[other].locks);
+        for lock in others.filter(|lock| lock.uid == uid) {
+            self.count_if(lock.left > left, &name("locked longer at another desk"));
+            self.count_if(lock.left < left, &name("locked shorter at another desk"));
+        }
+        let first = before.desks[at].locks[0];
+        self.count_if(first.uid != uid && first.left != left, &name("not the oldest lock"));
     }
 
     fn frame(&mut self, line: &[u8], octets: &[u8]) {
@@ -165,6 +199,9 @@ impl Coverage {
         self.count_if(before.due > 0 && [0x33, 0x64].contains(&control), &format!("removal cancelled by {name}"));
         self.count_if(before.due > 0 && control == 0x63, "removal due kept by 0x63");
         self.count_if(!before.locks.is_empty(), &format!("{name} while locks stand"));
+        if self.depot.desks[at].valid_time != before.valid_time {
+            self.taken_by[at] = control;
+        }
         if control == 0x32 {
             self.removal(before, at);
         }

@@ -118,7 +118,7 @@ pub fn text(answer: &Answer) -> String {
         Answer::Refused(refusal) => format!("refused {}", refusal.number()),
         Answer::Ok => "ok".into(),
         Answer::Seen(Seen::Recorded) => "recorded".into(),
-        Answer::Seen(Seen::Ignored) => "ignored".into(),
+        Answer::Seen(Seen::Ignored(left)) => format!("ignored {left}"),
         Answer::Seen(Seen::Lost) => "lost".into(),
         Answer::NotRead => "not read".into(),
     }

@@ -24,7 +24,8 @@ pub struct Lock {
 /// What became of a sighting.
 #[derive(Clone, Copy, PartialEq, Eq, Debug)]
 pub enum Seen {
-    Ignored,
+    /// With the ticks that the lock has left.
+    Ignored(u16),
     Lost,
     Recorded,
 }
@@ -62,8 +63,8 @@ impl Desk {
 
     /// The first rule that fits.
     pub fn sighting(&mut self, uid: Uid, mask: u8) -> Seen {
-        if self.locks.iter().any(|lock| lock.uid == uid) {
-            return Seen::Ignored;
+        if let Some(lock) = self.locks.iter().find(|lock| lock.uid == uid) {
+            return Seen::Ignored(lock.left);
         }
         if self.records.len() == TAB_SIZE {
             self.mark = true;

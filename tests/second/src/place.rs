@@ -89,9 +89,9 @@ fn sight(store: &mut [u8], desk: usize, uid: Uid, mask: u8) -> Seen {
     let full = held(store, desk) == TAB_SIZE;
     let row = row_mut(store, desk);
     let count = usize::from(row[LOCK_COUNT]);
-    let locked = row[LOCK_LIST..LOCK_LIST + count * LOCK].chunks(LOCK).any(|lock| lock[..8] == uid);
-    if locked {
-        return Seen::Ignored;
+    let mut locks = row[LOCK_LIST..LOCK_LIST + count * LOCK].chunks(LOCK);
+    if let Some(lock) = locks.find(|lock| lock[..8] == uid) {
+        return Seen::Ignored(word(lock, 8) as u16);
     }
     if full {
         row[MARK] = 1;

@@ -131,12 +131,13 @@ pub fn many_locks(gen: &mut Gen) {
     probe(gen, desk);
 }
 
-/// One UID at several desks, some of them twice.
+/// One UID at several desks, some of them twice; now and then a tick passes between.
 pub fn several_desks(gen: &mut Gen) {
     let uid = gen.new_uid();
     for _ in 0..6 {
         let desk = gen.random.below(DESKS);
         gen.sight(desk, uid);
+        gen.ticks(gen.random.below(2));
     }
     let desk = gen.any_desk();
     probe(gen, desk);

@@ -132,7 +132,7 @@ pub fn refused_shape(octets: &[u8], refusal: Refusal) -> String {
     }
 }
 
-const FIXED: [&str; 74] = [
+const FIXED: [&str; 88] = [
     "frame: refused 3, empty",
     "frame: refused 3, Standard too long",
     "frame: refused 3, Advanced too long",
@@ -149,6 +149,20 @@ const FIXED: [&str; 74] = [
     "sighting: lost, locked at another desk",
     "sighting: lost, 512 records held",
     "sighting: ignored, 64 held, no mark",
+    "sighting: ignored, all ticks left",
+    "sighting: ignored, one tick passed",
+    "sighting: ignored, one tick left",
+    "sighting: ignored, more than 255 ticks left",
+    "sighting: ignored, 65534 ticks left",
+    "sighting: ignored, 65535 ticks left",
+    "sighting: ignored, VALID-TIME 1",
+    "sighting: ignored, VALID-TIME taken by 0x63",
+    "sighting: ignored, VALID-TIME taken by 0x64",
+    "sighting: ignored, new VALID-TIME not in force",
+    "sighting: ignored, locked longer at another desk",
+    "sighting: ignored, locked shorter at another desk",
+    "sighting: ignored, not the oldest lock",
+    "sighting: recorded, its lock ended with the last tick",
     "sighting: the oldest lock gave way",
     "sighting: recorded, VALID-TIME 0",
     "sighting: recorded, VALID-TIME 65535",

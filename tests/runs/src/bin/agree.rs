@@ -1,6 +1,7 @@
 //! `agree SEED OCTETS` prints a module of proofs: the rules give the second program's answers to random events, by computation
 //! alone. Lines that are no event are left out, and it ends where frames and replies pass OCTETS octets.
 
+use runs::calls::{outcome, seen_code};
 use runs::floors::answers;
 use runs::numbers;
 use second::frame::{seal, Kind, Refusal};
@@ -31,7 +32,7 @@ fn answer_text(answer: &Answer) -> String {
         Answer::Reply(octets) => format!("reply ({})", list(octets)),
         Answer::Refused(refusal) => format!("refused {}", refusal.number()),
         Answer::Ok => "ok".into(),
-        Answer::Seen(Seen::Ignored) => "seen Ignored".into(),
+        Answer::Seen(Seen::Ignored(left)) => format!("seen (Ignored {left})"),
         Answer::Seen(Seen::Lost) => "seen Lost".into(),
         Answer::Seen(Seen::Recorded) => "seen Recorded".into(),
         Answer::NotRead => unreachable!("left out"),
@@ -47,7 +48,7 @@ fn octets_of(event: &Event, answer: &Answer) -> usize {
 type Story = fn(&mut Gen, usize);
 
 /// Short stories, so that every module meets what random events may pass by (`must_meet`).
-const STORIES: [Story; 5] = [passwords, blocks, system_reset, antennas, refusals];
+const STORIES: [Story; 6] = [passwords, blocks, held_back, system_reset, antennas, refusals];
 
 /// A wrong one; then it becomes the right one, in EEPROM alone, until a save puts the old one back.
 fn passwords(gen: &mut Gen, desk: usize) {
@@ -78,6 +79,26 @@ fn blocks(gen: &mut Gen, desk: usize) {
     gen.request(desk, 0x83, &[0x8C]);
     gen.request(desk, 0x80, &[0x8C]);
     gen.request(desk, 0x52, &[0]);
+}
+
+/// A tag met at each tick of its lock and after the last; then one whose lock has all the ticks that two octets hold.
+fn held_back(gen: &mut Gen, desk: usize) {
+    let ticks = gen.random.pick(&[1, 2, 3]);
+    gen.valid_time(desk, ticks, 0x63);
+    let uid = gen.new_uid();
+    gen.sight(desk, uid);
+    for _ in 0..ticks {
+        gen.sight(desk, uid);
+        gen.ticks(1);
+    }
+    gen.sight(desk, uid);
+    gen.valid_time(desk, 65535, 0x63);
+    gen.sight(desk, uid);
+    gen.sight(desk, uid);
+    gen.ticks(1);
+    gen.sight(desk, uid);
+    gen.request(desk, 0x83, &[0x8C]);
+    gen.request(desk, 0x63, &[]);
 }
 
 fn system_reset(gen: &mut Gen, desk: usize) {
@@ -127,7 +148,7 @@ fn tell(gen: &mut Gen, story: Story) {
 }
 
 /// Every other status than 0x00, every refusal of the box and every outcome of a sighting.
-const MET: [&str; 20] = [
+const MET: [&str; 23] = [
     "0x52 answers 0x11",
     "0x80 answers 0x13",
     "0xA0 answers 0x14",
@@ -145,6 +166,9 @@ const MET: [&str; 20] = [
     "refused 5",
     "refused 6",
     "ignored",
+    "ignored, one tick left",
+    "ignored, more than 255 ticks left",
+    "ignored, 65535 ticks left",
     "lost",
     "recorded",
     "ok",
@@ -162,6 +186,7 @@ fn met(event: &Event, answer: &Answer) -> String {
             let head = Kind::of(octets[0]).head();
             answers(octets[head + 1], reply[head + 2])
         }
+        (_, Answer::Seen(seen)) => outcome(seen_code(Ok(*seen))),
         _ => text(answer),
     }
 }

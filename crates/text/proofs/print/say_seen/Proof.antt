@@ -1,4 +1,4 @@
--- `text::print::say_seen` meets its contract. Assumes nothing.
+-- `text::print::say_seen` meets its contract: a word, and the ticks where it is ignored. Assumes nothing.
 use Rattle.text.specs.Listing.{seenLine}
 use borrow.Author.Needs.{needs}
 use Rattle.text.proofs.print.say_seen.Statement.{statement}
@@ -6,15 +6,15 @@ use Rattle.text.proofs.print.say_seen.Tie as tie
 
 returns : tie.Need-returns
 unfolding seenLine
-returns c = rw (c .before .before .before .before .before .enum-told .given .1) (c .before .before .say .ensures)
+returns c = rw (c .before .before .before .before .before .before .seen .given .1) (c .before .before .say-number .ensures)
 
 returns-2 : tie.Need-returns-2
 unfolding seenLine
-returns-2 c = rw (c .before .before .before .before .before .enum-told2 .given .1) (c .before .before .say2 .ensures)
+returns-2 c = rw (c .before .before .before .before .before .enum-told .given .1) (c .before .before .say .ensures)
 
 returns-3 : tie.Need-returns-3
 unfolding seenLine
-returns-3 c = rw (c .before .before .before .before .before .enum-told3 .given .1) (c .before .before .say3 .ensures)
+returns-3 c = rw (c .before .before .before .before .before .enum-told2 .given .1) (c .before .before .say2 .ensures)
 
 pub say-seen-spec : {M : Type 1} → statement M
 say-seen-spec =
