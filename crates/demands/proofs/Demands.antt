@@ -5,6 +5,7 @@ use mathlib.Core.Bool.{Bool, true, false, cond, not}
 use mathlib.Core.List.{List}
 use mathlib.Core.Logic.{_⊎_, inl, inr}
 use mathlib.Core.Option.{none, some}
+use native.Mathlib.Omega.{arith}
 use lib.ListN.{length, take}
 use lib.Dec.{eqb}
 use Rattle.table.specs.Entries.{desks}
@@ -14,7 +15,8 @@ use Rattle.octets.specs.Tests.{first, allOf}
 use Rattle.frame.specs.declared.Refusal.{Refusal}
 use Rattle.frame.specs.Refusal.{numberOf, Refuses}
 use Rattle.rules.specs.declared.Written.the-variants.{Octets}
-use Rattle.rules.specs.Box.{Event, frame, freshBox, deskAt, run, after}
+use Rattle.rules.specs.declared.Seen.the-variants.{Ignored}
+use Rattle.rules.specs.Box.{Event, frame, seen, freshBox, deskAt, run, after}
 use Rattle.rules.specs.Events.{history}
 use Rattle.rules.specs.Cases.{cases}
 use Rattle.rules.proofs.Cases.{cases-hold}
@@ -23,7 +25,7 @@ use Rattle.fresh.specs.Fresh.{freshStore}
 use Rattle.store.specs.View.{view}
 use Rattle.store.specs.Sound.{sound}
 use Rattle.events.specs.declared.Answer.{Answer}
-use Rattle.events.specs.declared.Answer.the-variants.{Refused, Done}
+use Rattle.events.specs.declared.Answer.the-variants.{Refused, Reply, Sighted, Done}
 use Rattle.depot.specs.Called.{Called, testRefusals, TestedOf, Tested, freshRefusals, MadeOf, Made}
 use Rattle.requests.specs.declared.Request.{Request}
 use Rattle.maker.specs.Maker.{Requested}
@@ -78,6 +80,13 @@ pub no-desk-shows : (n : ℕ) → n < desks → (ds ds′ : List Deed) (s s′ :
     → history n (eventsOf ds) ≡ history n (eventsOf ds′)
     → (heardBy n ds ≡ heardBy n ds′) × (deskAt (view s) n ≡ deskAt (view s′) n)
 no-desk-shows = isolated
+
+-- the ticks of an ignored sighting are heard (document 02, vii): who hears them was answered with them
+pub ticks-heard : (a : Answer) (out : List ℕ) (left : ℕ) → heard a out ≡ seen (Ignored left) → a ≡ Sighted (Ignored left)
+ticks-heard (Refused r) out left e = let z : _≡_ {A = ℕ} 0 1 = cc in absurd (omega arith)
+ticks-heard (Reply n) out left e = let z : _≡_ {A = ℕ} 0 1 = cc in absurd (omega arith)
+ticks-heard (Sighted w) out left e = cc
+ticks-heard Done out left e = let z : _≡_ {A = ℕ} 0 1 = cc in absurd (omega arith)
 
 -- M1 to M12, of the definitions that the promises cite
 pub edges : allOf (λ (b : Bool). b) cases ≡ true

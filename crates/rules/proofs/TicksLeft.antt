@@ -16,7 +16,7 @@ use Rattle.rules.specs.declared.Seen.{Seen}
 use Rattle.rules.specs.declared.Seen.the-variants.{Ignored, Lost, Recorded}
 use Rattle.rules.specs.Desk.{Desk, withLocks, withTable, withTimer}
 use Rattle.rules.specs.Records.{recordOf, withRecord}
-use Rattle.rules.specs.Sighting.{seenAs, afterSeen, ticked}
+use Rattle.rules.specs.Sighting.{unlockedAs, seenAs, afterSeen, ticked}
 use Rattle.rules.specs.Box.{sighting, tick, seen, ok, sighted, freshBox, run}
 use Rattle.rules.proofs.Facts.{DeskLegal}
 use Rattle.rules.proofs.Legality.{sighted-legal, ticked-legal}
@@ -24,10 +24,6 @@ use Rattle.rules.proofs.Computed.{computed}
 use Rattle.rules.proofs.Slips.{ask, told, zeros}
 
 -- ---- what the answer tells of the lock
-
--- as rules 2 and 3 have it
-abbrev unlockedAs : ℕ → Seen
-unlockedAs held = cond (ltb held share) Recorded Lost
 
 module _ (uid : ℕ) (d : Desk) where
   -- ignored is rule 1, and its ticks are those of the lock
@@ -45,7 +41,7 @@ module _ (uid : ℕ) (d : Desk) where
   unfolding seenAs
   recorded-is e = go (locked uid (d .locks)) e
     where
-      go : (l : Bool) → cond l (Ignored (ticksLeft uid (d .locks))) (unlockedAs (length (d .table .held))) ≡ Recorded → l ≡ false
+      go : (l : Bool) → cond l (Ignored (ticksLeft uid (d .locks))) (unlockedAs d) ≡ Recorded → l ≡ false
       go true w = let z : _≡_ {A = ℕ} 0 1 = cc in absurd (omega arith)
       go false w = refl
 
@@ -59,7 +55,7 @@ module _ (uid : ℕ) (d : Desk) where
     from-1-to-valid n e = let i = ignored-is n e in rw (i .1) at (left-range (d .valid) uid (d .locks) (legal .locks) (i .0))
 
     -- the ticks alone tell which rule fits
-    seen-by-left : seenAs uid d ≡ (let left = ticksLeft uid (d .locks) in cond (ltb 0 left) (Ignored left) (unlockedAs (length (d .table .held))))
+    seen-by-left : seenAs uid d ≡ (let left = ticksLeft uid (d .locks) in cond (ltb 0 left) (Ignored left) (unlockedAs d))
     unfolding seenAs
     seen-by-left = rw (locked-by-left (d .valid) uid (d .locks) (legal .locks))
 
@@ -107,21 +103,25 @@ by-held (suc k) d = by-held k d
 
 -- a lock that has so many ticks left, k ticks later
 later : (k uid n : ℕ) (d : Desk) → DeskLegal d → ticksLeft uid (d .locks) ≡ n
-    → seenAs uid (tickedBy k d) ≡ cond (ltb k n) (Ignored (n - k)) (unlockedAs (length (d .table .held)))
+    → seenAs uid (tickedBy k d) ≡ cond (ltb k n) (Ignored (n - k)) (unlockedAs d)
 later k uid n d legal e = seen-by-left uid (tickedBy k d) (by-legal k d legal) ∙ rw (by-left k uid d legal, e, by-held k d) (go (ltb k n) refl)
   where
-    go : (b : Bool) → ltb k n ≡ b → cond (ltb 0 (n - k)) (Ignored (n - k)) (unlockedAs (length (d .table .held))) ≡ cond b (Ignored (n - k)) (unlockedAs (length (d .table .held)))
+    go : (b : Bool) → ltb k n ≡ b → cond (ltb 0 (n - k)) (Ignored (n - k)) (unlockedAs d) ≡ cond b (Ignored (n - k)) (unlockedAs d)
     go true q = rw (lt-ltb 0 (n - k) (omega (arith, ltb-true k n q)))
     go false q = rw (le-ltb 0 (n - k) (omega (arith, ltb-false k n q)))
 
+-- who is told so many ticks is told one fewer at each tick, down to 1, and is then no longer held back
+pub counts-down : (k uid n : ℕ) (d : Desk) → DeskLegal d → seenAs uid d ≡ Ignored n → seenAs uid (tickedBy k d) ≡ cond (ltb k n) (Ignored (n - k)) (unlockedAs d)
+counts-down k uid n d legal e = later k uid n d legal (ignored-is uid d n e .1)
+
 module _ (uid mask : ℕ) (d : Desk) (small : uid < 2 ^ 64) (octet : Octet mask) (legal : DeskLegal d) (recorded : seenAs uid d ≡ Recorded) where
   -- a tag that was recorded is held back VALID-TIME ticks: met k ticks later, it is told how many of them are left; met after the last it is
-  -- recorded again, or lost where that record was the 64th
-  pub lock-lasts : (k : ℕ) → seenAs uid (tickedBy k (sighted uid mask d .desk)) ≡ cond (ltb k (d .valid)) (Ignored (d .valid - k)) (unlockedAs (length (d .table .held) + 1))
-  unfolding sighted afterSeen withLocks withTable withRecord
+  -- recorded again, or lost where 64 records are held
+  pub lock-lasts : (k : ℕ) → let after = sighted uid mask d .desk in seenAs uid (tickedBy k after) ≡ cond (ltb k (d .valid)) (Ignored (d .valid - k)) (unlockedAs after)
+  unfolding sighted afterSeen withLocks
   lock-lasts k =
-      later k uid (d .valid) (sighted uid mask d .desk) (sighted-legal uid mask d small octet legal) (rw recorded (added-left uid (d .valid) (d .locks) (recorded-is uid d recorded)))
-      ∙ rw (recorded, length-append (d .table .held) (recordOf uid (d .timer) mask ∷ []))
+      later k uid (d .valid) (sighted uid mask d .desk) (sighted-legal uid mask d small octet legal)
+      (rw recorded (added-left uid (d .valid) (d .locks) (recorded-is uid d recorded)))
 
 -- ---- a day each at a fresh box
 
