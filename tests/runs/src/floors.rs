@@ -7,9 +7,12 @@ use second::situations::statuses;
 /// `(calls, call, outcomes)`: each outcome of that call is met at least once in so many calls. A run of fewer calls than that is
 /// not asked for it, so that a short run, as under valgrind, is asked for the frequent ones alone. The numbers leave room for
 /// chance: in sixty runs of 100000 calls the least count was at least twice the floor.
-const FLOORS: [(u64, &str, &[&str]); 44] = [
+const FLOORS: [(u64, &str, &[&str]); 48] = [
     (500, "history", &["0x80 answers 0x00", "0x81 answers 0x00", "0x22 answers 0x00", "done", "recorded"]),
-    (1000, "history", &["0xA0 answers 0x00", "ignored"]),
+    (1000, "history", &["0xA0 answers 0x00"]),
+    (2000, "history", &["ignored"]),
+    (5000, "history", &["ignored, more than 255 ticks left"]),
+    (RARE, "history", &["ignored, one tick left", "ignored, 65535 ticks left"]),
     (5000, "history", &["0x80 answers 0x13", "0xA0 answers 0x14", "0x64 answers 0x00", "0x22 answers 0x93", "0x22 answers 0x94"]),
     (5000, "history", &["unknown answers 0x80", "refused 3", "refused 4", "refused 5", "lost"]),
     (RARE, "history", &["refused 6"]),
@@ -20,6 +23,7 @@ const FLOORS: [(u64, &str, &[&str]); 44] = [
     (RARE, "frame", &["status 0x92", "status 0x93", "status 0x94"]),
     (500, "sighting", &["refused 1", "refused 5, a mask of 0 or above 255 as well", "refused 6, above 255", "recorded"]),
     (5000, "sighting", &["refused 5", "refused 5, above 255", "refused 6", "ignored", "lost"]),
+    (RARE, "sighting", &["ignored, one tick left", "ignored, more than 255 ticks left"]),
     (500, "tick", &["refused 1", "done"]),
     (500, "fresh", &["refused 1", "done"]),
     (500, "test", &["refused 1", "done"]),

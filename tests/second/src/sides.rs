@@ -58,7 +58,11 @@ impl Sides {
             lock_twice(random, &mut store);
         }
         let at = interesting(random, &store);
-        store[at] = any_octet(random, store[at]);
+        let (at, octet) = match random.below(3) {
+            0 => at_its_edge(random, &store),
+            _ => (at, any_octet(random, store[at])),
+        };
+        store[at] = octet;
         if random.one_in(3) {
             store = zeros(random);
         }
@@ -186,6 +190,14 @@ pub fn interesting(random: &Random, store: &[u8]) -> usize {
         3 => row + block7,
         _ => row + random.pick(&fields),
     }
+}
+
+/// A field of some row, with the last number that may stand there or the first that may not.
+fn at_its_edge(random: &Random, store: &[u8]) -> (usize, u8) {
+    let row = rows_at(store) + random.below(8) * ROW;
+    let last = [(LOGGED_IN, 1), (TIMER, 23), (TIMER + 1, 59), (MARK, 1), (TAB_START, 63), (LOCK_COUNT, 64)];
+    let (field, last) = random.pick(&last);
+    (row + field, last + random.below(2) as u8)
 }
 
 /// The second lock of some desk gets the UID of the first. Where fewer than two
