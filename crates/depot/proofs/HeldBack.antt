@@ -1,6 +1,6 @@
 -- Document 02 (vii), of the call itself: a sighting that is answered "ignored", whatever the store, tells ticks from 1 to VALID-TIME in force
 -- at the desk, and they are what the lock has left before the call and after it. Assumes nothing.
-use mathlib.Core.Path.{_≡_, refl, sym, ap, _∙_}
+use mathlib.Core.Path.{_≡_, refl, _∙_}
 use Prim.Native.Nat.{ℕ, _≤_}
 use mathlib.Core.Bool.{Bool, true, false, cond}
 use mathlib.Core.List.{List}
@@ -12,7 +12,7 @@ use Rattle.locks.specs.Locks.{ticksLeft}
 use Rattle.rules.specs.declared.Seen.the-variants.{Ignored}
 use Rattle.rules.specs.Desk.{Desk, freshDesk}
 use Rattle.rules.specs.Sighting.{seenAs, afterSeen}
-use Rattle.rules.specs.Box.{Box, sighting, refused, Step, sighted, placed, unlessRefused, sightingRefusals, step, deskAt}
+use Rattle.rules.specs.Box.{sighting, refused, sighted, placed, unlessRefused, sightingRefusals, step, deskAt}
 use Rattle.rules.proofs.TicksLeft.{left-before-and-after, from-1-to-valid}
 use Rattle.store.specs.View.{view}
 use Rattle.store.specs.Sound.{sound}

@@ -6,12 +6,12 @@ use mathlib.Core.Logic.{inr}
 use mathlib.Core.List.{List, [], _∷_, _++_}
 use native.Mathlib.Nat.{pow-suc, div-lt-iff-lt-mul}
 use native.Mathlib.Omega.{arith}
-use borrow.Author.Tests.{lt-ltb, le-ltb, ltb-true}
+use borrow.Author.Tests.{lt-ltb, le-ltb, ltb-true, ltb-false}
 use lib.Dec.{ltb, lit<}
 use lib.ListN.{length, set, length-append}
 use Rattle.octets.specs.Parts.{put}
 use Rattle.octets.proofs.Puts.{put-append, put-comm, put-one}
-use Rattle.digits.specs.Digits.{lastDigits, placesOf, decimalOf, saidBy}
+use Rattle.digits.specs.Digits.{lastDigits, placesOf, decimalOf, numberSaid}
 
 -- no leading zeros: 0, 9, 10, 255, 65535
 pub samples : (decimalOf 0 ≡ (0x30 ∷ [])) × (decimalOf 9 ≡ (0x39 ∷ [])) × (decimalOf 10 ≡ (0x31 ∷ 0x30 ∷ [])) × (decimalOf 255 ≡ (0x32 ∷ 0x35 ∷ 0x35 ∷ []))
@@ -81,20 +81,20 @@ last-more at (suc i) n out h =
 
 -- ---- read back
 
-said-more : (n : ℕ) (s : List ℕ) (c : ℕ) → saidBy n (s ++ (c ∷ [])) ≡ saidBy n s * 10 + (c - 0x30)
-unfolding saidBy
+said-more : (n : ℕ) (s : List ℕ) (c : ℕ) → numberSaid n (s ++ (c ∷ [])) ≡ numberSaid n s * 10 + (c - 0x30)
+unfolding numberSaid
 said-more n [] c = refl
 said-more n (b ∷ s) c = said-more (n * 10 + (b - 0x30)) s c
 
-said-last : (k n : ℕ) → n < 10 ^ k → saidBy 0 (lastDigits k n) ≡ n
-unfolding saidBy lastDigits
+said-last : (k n : ℕ) → n < 10 ^ k → numberSaid 0 (lastDigits k n) ≡ n
+unfolding numberSaid lastDigits
 said-last zero n h = omega arith
 said-last (suc k) n h =
     let small : n / 10 < 10 ^ k = div-lt-iff-lt-mul (lit< tt) .1 (rw pow-suc at h) in
     said-more 0 (lastDigits k (n / 10)) (0x30 + n % 10) ∙ rw (said-last k (n / 10) small) (omega arith)
 
 -- the digits say the number
-pub decimal-said : (n : ℕ) → n < 100000 → saidBy 0 (decimalOf n) ≡ n
+pub decimal-said : (n : ℕ) → n < 100000 → numberSaid 0 (decimalOf n) ≡ n
 unfolding decimalOf placesOf
 decimal-said n h = said-last (placesOf n) n (fits (ltb n 10) (ltb n 100) (ltb n 1000) (ltb n 10000) refl refl refl refl)
   where
@@ -104,3 +104,15 @@ decimal-said n h = said-last (placesOf n) n (fits (ltb n 10) (ltb n 100) (ltb n 
     fits false false true d p q r t = rw (p, q, r) (ltb-true n 1000 r)
     fits false false false true p q r t = rw (p, q, r, t) (ltb-true n 10000 t)
     fits false false false false p q r t = rw (p, q, r, t) h
+
+-- and none of them is a leading zero: fewer would not do
+pub fewest-digits : (n : ℕ) → 10 ≤ n → 10 ^ (placesOf n - 1) ≤ n
+unfolding placesOf
+fewest-digits n h = go (ltb n 10) (ltb n 100) (ltb n 1000) (ltb n 10000) refl refl refl
+  where
+    go : (a b c d : Bool) → ltb n 100 ≡ b → ltb n 1000 ≡ c → ltb n 10000 ≡ d → 10 ^ (cond a 1 (cond b 2 (cond c 3 (cond d 4 5))) - 1) ≤ n
+    go true b c d q r t = omega arith
+    go false true c d q r t = h
+    go false false true d q r t = ltb-false n 100 q
+    go false false false true q r t = ltb-false n 1000 r
+    go false false false false q r t = ltb-false n 10000 t

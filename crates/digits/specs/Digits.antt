@@ -43,6 +43,6 @@ unfoldable pub decimalOf : ℕ → List ℕ
 decimalOf n = lastDigits (placesOf n) n
 
 -- the number that decimal digits say, behind a number that those before them said
-unfoldable pub saidBy : ℕ → List ℕ → ℕ
-saidBy n [] = n
-saidBy n (c ∷ s) = saidBy (n * 10 + (c - 0x30)) s
+unfoldable pub numberSaid : ℕ → List ℕ → ℕ
+numberSaid n [] = n
+numberSaid n (c ∷ s) = numberSaid (n * 10 + (c - 0x30)) s

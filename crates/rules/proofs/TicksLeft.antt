@@ -1,10 +1,10 @@
 -- Document 02 (vii), as a porter meets it: an ignored sighting tells the ticks that its lock has left, from 1 to VALID-TIME in force. Assumes nothing.
-use mathlib.Core.Path.{_≡_, refl, sym, ap, _∙_}
-use Prim.Native.Nat.{ℕ, zero, suc, _+_, _-_, _^_, _≤_, _<_}
+use mathlib.Core.Path.{_≡_, refl, _∙_}
+use Prim.Native.Nat.{ℕ, zero, suc, _-_, _^_, _≤_, _<_}
 use mathlib.Core.Bool.{Bool, true, false, cond}
-use mathlib.Core.List.{List, [], _∷_, _++_}
+use mathlib.Core.List.{[], _∷_}
 use native.Mathlib.Omega.{arith}
-use lib.ListN.{length, getD, length-append}
+use lib.ListN.{length, getD}
 use lib.Dec.{ltb}
 use borrow.Author.Tests.{ltb-true, ltb-false, lt-ltb, le-ltb}
 use Rattle.octets.specs.Each.{Octet}
@@ -14,8 +14,7 @@ use Rattle.locks.proofs.TicksLeft.{lock-at, left-range, locked-by-left, swept-l
 use Rattle.table.specs.Entries.{share}
 use Rattle.rules.specs.declared.Seen.{Seen}
 use Rattle.rules.specs.declared.Seen.the-variants.{Ignored, Lost, Recorded}
-use Rattle.rules.specs.Desk.{Desk, withLocks, withTable, withTimer}
-use Rattle.rules.specs.Records.{recordOf, withRecord}
+use Rattle.rules.specs.Desk.{Desk, withLocks, withTimer}
 use Rattle.rules.specs.Sighting.{unlockedAs, seenAs, afterSeen, ticked}
 use Rattle.rules.specs.Box.{sighting, tick, seen, ok, sighted, freshBox, run}
 use Rattle.rules.proofs.Facts.{DeskLegal}
