@@ -18,16 +18,16 @@ use Rattle.locks.proofs.Sound.{LockLegal, LocksLegal, Distinct, unlocke
 -- ---- one more lock
 
 module _ (uid : ℕ) (l : Lock) (ls : List Lock) where
-  pub locked-here : eqb (l .uid) uid ≡ true → locked uid (l ∷ ls) ≡ true
+  locked-here : eqb (l .uid) uid ≡ true → locked uid (l ∷ ls) ≡ true
   locked-here e = locked-cons uid l ls ∙ rw e
 
-  pub locked-later : eqb (l .uid) uid ≡ false → locked uid (l ∷ ls) ≡ locked uid ls
+  locked-later : eqb (l .uid) uid ≡ false → locked uid (l ∷ ls) ≡ locked uid ls
   locked-later e = locked-cons uid l ls ∙ rw e
 
-  pub left-here : eqb (l .uid) uid ≡ true → ticksLeft uid (l ∷ ls) ≡ l .left
+  left-here : eqb (l .uid) uid ≡ true → ticksLeft uid (l ∷ ls) ≡ l .left
   left-here e = left-cons uid l ls ∙ rw e
 
-  pub left-later : eqb (l .uid) uid ≡ false → ticksLeft uid (l ∷ ls) ≡ ticksLeft uid ls
+  left-later : eqb (l .uid) uid ≡ false → ticksLeft uid (l ∷ ls) ≡ ticksLeft uid ls
   left-later e = left-cons uid l ls ∙ rw e
 
 -- none stands, and none are left

@@ -2,8 +2,9 @@
 use Prim.Native.Nat.{ℕ, _+_, _*_, _≤_}
 use mathlib.Core.Path.{_≡_, sym, ap, _∙_}
 use mathlib.Core.List.{List, [], _∷_, _++_}
-use native.Mathlib.Nat.{zero-add}
+use native.Mathlib.Nat.{zero-add, le-trans}
 use native.Mathlib.Omega.{arith}
+use lib.Dec.{lit≤}
 use lib.ListN.{length, set, take, length-append, length-take}
 use Rattle.octets.specs.Parts.{put}
 use Rattle.octets.proofs.Puts.{put-append, put-one}
@@ -40,12 +41,16 @@ number-line-put word out mid out′ n k m l p =
     rw (p, m, l)
     (sym (put-append 0 word (decimalOf n ++ (0x0A ∷ [])) out ∙ put-append (0 + length word) (decimalOf n) (0x0A ∷ []) (put 0 word out) ∙ simp (put-one, zero-add)))
 
+-- a word and a number have room among the words
+number-line-short : (word : List ℕ) (n : ℕ) → length word + 6 ≤ wordRoom → length (numberLine word n) ≤ wordRoom
+number-line-short word n h = omega (arith, number-line-length word n, places-most n)
+
 -- every line has room in as many octets as the longest
 pub printed-short : (a : Answer) (reply : List ℕ) → Short a → length (printed a reply) ≤ longestLine
 unfolding printed refusedLine seenLine okLine
-printed-short (Refused r) reply h = omega (arith, number-line-length (0x72 ∷ 0x65 ∷ 0x66 ∷ 0x75 ∷ 0x73 ∷ 0x65 ∷ 0x64 ∷ 0x20 ∷ []) (numberOf r), places-most (numberOf r))
+printed-short (Refused r) reply h = le-trans (number-line-short _ (numberOf r) (lit≤ tt)) (lit≤ tt)
 printed-short (Reply n) reply h = omega (arith, hex-line-length (take n reply), length-take n reply)
-printed-short (Sighted (Ignored n)) reply h = omega (arith, number-line-length (0x69 ∷ 0x67 ∷ 0x6E ∷ 0x6F ∷ 0x72 ∷ 0x65 ∷ 0x64 ∷ 0x20 ∷ []) n, places-most n)
+printed-short (Sighted (Ignored left)) reply h = le-trans (number-line-short _ left (lit≤ tt)) (lit≤ tt)
 printed-short (Sighted Lost) reply h = omega arith
 printed-short (Sighted Recorded) reply h = omega arith
 printed-short Done reply h = omega arith

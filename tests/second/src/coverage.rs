@@ -120,7 +120,7 @@ impl Coverage {
         let valid = before.desks[at].valid_time;
         let name = |what: &str| format!("sighting: ignored, {what}");
         self.count_if(left == valid, &name("all ticks left"));
-        self.count_if(left + 1 == valid, &name("one tick passed"));
+        self.count_if(valid - left == 1, &name("one tick passed"));
         self.count_if(left == 1, &name("one tick left"));
         self.count_if(left > 255 && left != valid, &name("more than 255 ticks left"));
         self.count_if(left >= 65534, &name(&format!("{left} ticks left")));
