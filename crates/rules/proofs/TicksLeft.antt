@@ -59,10 +59,10 @@ module _ (uid : ℕ) (d : Desk) where
     seen-by-left = rw (locked-by-left (d .valid) uid (d .locks) (legal .locks))
 
 -- each lock of a desk is met so, with its own ticks
-pub of-each-lock : (d : Desk) (i : ℕ) (none : Lock) → DeskLegal d → i < length (d .locks)
-    → let l = getD (d .locks) i none in seenAs (l .uid) d ≡ Ignored (l .left)
+pub of-each-lock : (d : Desk) (i : ℕ) (absent : Lock) → DeskLegal d → i < length (d .locks)
+    → let l = getD (d .locks) i absent in seenAs (l .uid) d ≡ Ignored (l .left)
 unfolding seenAs
-of-each-lock d i none legal h = let f = lock-at (d .locks) i none (legal .locks .distinct) h in rw (f .0, f .1)
+of-each-lock d i absent legal h = let f = lock-at (d .locks) i absent (legal .locks .distinct) h in rw (f .0, f .1)
 
 -- in two octets, as the lock keeps them
 abbrev pub TicksFit : Seen → Type 0
