@@ -91,7 +91,7 @@ extern "C" {
 #define DEPOT_RECORDED 64
 #define DEPOT_LOST 65           /* the desk holds 64 records; the overflow mark is set */
 #define DEPOT_IGNORED(code) ((code) >> 16 == 1)             /* the UID is locked at this desk */
-#define DEPOT_TICKS_LEFT(code) ((uint16_t)((code) & 65535)) /* for so many ticks of 100 ms more, where DEPOT_IGNORED(code) */
+#define DEPOT_TICKS_LEFT(code) ((uint16_t)((code) & 65535)) /* where DEPOT_IGNORED(code): the ticks of 100 ms that its lock has left */
 
 #define DEPOT_WRITTEN(code) ((code) >> 63 == 1)
 #define DEPOT_LENGTH(code) ((size_t)((code) & UINT64_C(0x7FFFFFFFFFFFFFFF)))
@@ -161,7 +161,8 @@ uint64_t depot_frame(uint8_t *store, size_t store_len, const uint8_t *frame, siz
  * significant.
  * Answers: DEPOT_IGNORED(code), DEPOT_LOST, DEPOT_RECORDED; refusals 1, 5, 6 (a mask of 0 or above 255), the least that fits.
  * An ignored one tells how long the tag is held back: DEPOT_TICKS_LEFT(code) is what its lock at this desk has left, VALID-TIME right
- * after it was recorded, 1 before its last tick, never 0. Being ignored does not lengthen it.
+ * after it was recorded, 1 before its last tick, never 0. Being ignored does not lengthen it. The lock can end sooner: a reset and
+ * DEPOT_CLEAR_RECORDS end all locks of a desk, and where 64 stand a new one ends the oldest.
  * Afterwards: the store is sound and holds what the sighting did, which is nothing where it was ignored; refused, it is as before.
  */
 uint64_t depot_sighting(uint8_t *store, size_t store_len, uint64_t desk, uint64_t uid, uint64_t mask);

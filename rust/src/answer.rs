@@ -71,7 +71,8 @@ impl std::error::Error for Refusal {}
 /// What a sighting came to.
 #[derive(Clone, Copy, Debug, PartialEq, Eq, Hash)]
 pub enum Seen {
-    /// The UID is locked at this desk, for so many ticks more: from 1 to VALID-TIME in force. Nothing changes.
+    /// The UID is locked at this desk, and its lock has so many ticks of 100 ms left: from 1 to VALID-TIME in force. Nothing changes.
+    /// The lock can end sooner: a reset and 0x33 end all locks of a desk, and where 64 stand a new one ends the oldest.
     Ignored(u16),
     /// The desk holds 64 records, and its overflow mark is set.
     Lost,
