@@ -81,7 +81,8 @@ fn blocks(gen: &mut Gen, desk: usize) {
     gen.request(desk, 0x52, &[0]);
 }
 
-/// A tag met at each tick of its lock and after the last; then one whose lock has all the ticks that two octets hold.
+/// A tag met at each tick of its lock and after the last; then one whose lock has all the ticks that two octets hold;
+/// then the default again.
 fn held_back(gen: &mut Gen, desk: usize) {
     let ticks = gen.random.pick(&[1, 2, 3]);
     gen.valid_time(desk, ticks, 0x63);
@@ -97,6 +98,7 @@ fn held_back(gen: &mut Gen, desk: usize) {
     gen.sight(desk, uid);
     gen.ticks(1);
     gen.sight(desk, uid);
+    gen.logged_in(desk);
     gen.request(desk, 0x83, &[0x8C]);
     gen.request(desk, 0x63, &[]);
 }
