@@ -81,12 +81,30 @@ extern "C" {
 #define DEPOT_REFUSED(code) ((code) >= 1 && (code) <= 63)
 #define DEPOT_UNSOUND 1         /* the store has the wrong size, or is not sound */
 #define DEPOT_SMALL_BUFFER 2    /* the reply buffer is shorter than DEPOT_REPLY_SIZE */
-#define DEPOT_WRONG_LENGTH 3    /* a frame shorter or longer than its kind allows, or its length field differs */
+#define DEPOT_NO_OCTETS 3       /* a frame of no octets at all */
+#define DEPOT_TOO_SHORT 31      /* a frame shorter than its kind allows */
+#define DEPOT_TOO_LONG 32       /* a frame longer than its kind allows */
+#define DEPOT_LENGTH_DIFFERS 33 /* its length field says another number of octets than were received */
 #define DEPOT_WRONG_CHECK 4     /* the CRC is wrong */
 #define DEPOT_NO_DESK 5         /* a desk above 7 */
 #define DEPOT_OUT_OF_RANGE 6    /* an argument out of range */
 #define DEPOT_NO_ROOM 7         /* the output has too little room */
 #define DEPOT_NOT_THE_REPLY 8   /* a sound frame that does not answer the request; data that no reply to the command carries */
+
+/*
+ * For installers: which length is wrong, and what to look at. A first octet of 2 means an advanced frame, whose second and third octet
+ * are its length, most significant first; any other first octet is a standard frame's length. The length counts every octet of the
+ * frame, length field and CRC too. The four stand in this order, before DEPOT_WRONG_CHECK: 31 and 32 are said by the number of octets
+ * received and the first of them, 33 by the length field, which is not read before.
+ *    3  Nothing came. Look at the plug, the cable and the power at its far end; then at a driver that calls without having read.
+ *   31  To the box below 5 octets, or 7 after a first octet of 2; to the reader below 6 or 8. The frame breaks off. Look at a loose
+ *       plug; then at a driver that waits too short a time for the next octet.
+ *   32  Above 255 octets, or 842 after a first octet of 2. Look at a driver that joins frames, or that loses the first octet of a long
+ *       one; then at the settings of the line, for noise without a pause.
+ *   33  As many octets as the kind can have, but the frame says another number. Look at a wrong driver: one for other frames (0, 1, 3
+ *       and 4 are never a length), that counts without the field or the CRC, or that puts the low octet first. Where it comes now and
+ *       then only, octets are lost or added on the way: look at the plug and the settings of the line.
+ */
 
 #define DEPOT_RECORDED 64
 #define DEPOT_LOST 65           /* the desk holds 64 records; the overflow mark is set */
@@ -150,7 +168,8 @@ uint64_t depot_test(const uint8_t *store, size_t store_len);
 
 /*
  * A frame arrives on the line, and the desk that it names answers.
- * Answers: DEPOT_WRITTEN, a reply of DEPOT_LENGTH (n) octets; refusals 1, 2, 3, 4, 5, the least that fits.
+ * Answers: DEPOT_WRITTEN, a reply of DEPOT_LENGTH (n) octets; refusals 1, 2, 3, 31, 32, 33, 4, 5, the
+ * first that fits, in this order.
  * Afterwards: answered, the reply stands in out[0] to out[n - 1], the octets behind it are as before, and the store is sound
  * and holds what the command did; refused, store and output are as before.
  */
@@ -192,7 +211,7 @@ uint64_t depot_make(uint64_t kind, uint64_t desk, uint64_t control, uint64_t a, 
 /*
  * Reads the reply to a request, which is given by the same arguments as to depot_make.
  * Answers: DEPOT_READ: the status is DEPOT_STATUS, and the data are DEPOT_DATA_LENGTH octets from reply[DEPOT_START] on;
- * refusals 3, 4, 8, the least that fits. 8 is given where kind, address or control byte differ, where no sound store answers
+ * refusals 3, 31, 32, 33, 4, 8, the first that fits, in this order. 8 is given where kind, address or control byte differ, where no sound store answers
  * that request with that status and data length, where a record count does not fit the length, and to what is no request.
  * Only reads.
  */

@@ -10,8 +10,17 @@ pub enum Refusal {
     Unsound = 1,
     /// The reply buffer is shorter than [`REPLY_SIZE`](crate::REPLY_SIZE).
     SmallBuffer = 2,
-    /// A frame is shorter or longer than its kind allows, or its length field differs from its length.
-    WrongLength = 3,
+    /// A frame of no octets at all: look at plug, cable and power, then at a driver that calls without having read.
+    NoOctets = 3,
+    /// A frame is shorter than its kind allows, 5 octets to the box and 6 to the reader, 7 and 8 after a first octet of 2: look at a
+    /// loose plug, then at a driver that waits too short a time for the next octet.
+    TooShort = 31,
+    /// A frame is longer than its kind allows, 255 octets, 842 after a first octet of 2: look at a driver that joins frames, or that
+    /// loses the first octet of a long one.
+    TooLong = 32,
+    /// The length field says another number of octets than were received: look at a wrong driver, or, where it comes now and then
+    /// only, at octets that are lost or added on the way.
+    LengthDiffers = 33,
     /// The CRC is wrong.
     WrongCheck = 4,
     /// A desk above 7.
@@ -39,7 +48,10 @@ impl Refusal {
         Some(match code {
             1 => Refusal::Unsound,
             2 => Refusal::SmallBuffer,
-            3 => Refusal::WrongLength,
+            3 => Refusal::NoOctets,
+            31 => Refusal::TooShort,
+            32 => Refusal::TooLong,
+            33 => Refusal::LengthDiffers,
             4 => Refusal::WrongCheck,
             5 => Refusal::NoDesk,
             6 => Refusal::OutOfRange,
@@ -55,7 +67,10 @@ impl fmt::Display for Refusal {
         let why = match self {
             Refusal::Unsound => "the store has the wrong size or is not sound",
             Refusal::SmallBuffer => "the reply buffer is shorter than the longest frame",
-            Refusal::WrongLength => "the frame has a wrong length",
+            Refusal::NoOctets => "there are no octets at all",
+            Refusal::TooShort => "the frame is shorter than its kind allows",
+            Refusal::TooLong => "the frame is longer than its kind allows",
+            Refusal::LengthDiffers => "the frame's length field differs from the length received",
             Refusal::WrongCheck => "the frame's CRC is wrong",
             Refusal::NoDesk => "there is no desk above 7",
             Refusal::OutOfRange => "an argument is out of range",

@@ -109,14 +109,14 @@ impl<B: DerefMut<Target = [u8]>> Store<B> {
 
     /// A frame arrives, and the desk that it names answers: the reply, at the start of the output; the octets behind it stay.
     ///
-    /// Refused: `WrongLength`, `WrongCheck`, `NoDesk`. Store and output are then as before.
+    /// Refused, the first that fits: `NoOctets`, `TooShort`, `TooLong`, `LengthDiffers`, `WrongCheck`, `NoDesk`. Store and output are then as before.
     ///
     /// ```
     /// let mut store = depot::Store::fresh();
     /// let mut out = [0; depot::REPLY_SIZE];
     /// let reply = store.frame(&[0x05, 0x00, 0x64, 0xAC, 0x25], &mut out);
     /// assert_eq!(reply, Ok(&[0x06, 0x00, 0x64, 0x00, 0x8E, 0x4A][..]));
-    /// assert_eq!(store.frame(&[], &mut out), Err(depot::Refusal::WrongLength));
+    /// assert_eq!(store.frame(&[], &mut out), Err(depot::Refusal::NoOctets));
     /// ```
     pub fn frame<'a>(&mut self, frame: &[u8], out: &'a mut [u8; REPLY_SIZE]) -> Result<&'a [u8], Refusal> {
         let code = raw::frame(&mut self.octets, frame, out);

@@ -88,7 +88,7 @@ fn frame_refuses() {
     box_refuses(&guard(STORE_SIZE), REPLY_SIZE, Refusal::Unsound, |s, out| raw::frame(s, &RESET, out));
     box_refuses(&s[1..], REPLY_SIZE, Refusal::Unsound, |s, out| raw::frame(s, &RESET, out));
     box_refuses(&s, REPLY_SIZE - 1, Refusal::SmallBuffer, |s, out| raw::frame(s, &RESET, out));
-    box_refuses(&s, REPLY_SIZE, Refusal::WrongLength, |s, out| raw::frame(s, &[], out));
+    box_refuses(&s, REPLY_SIZE, Refusal::NoOctets, |s, out| raw::frame(s, &[], out));
     box_refuses(&s, REPLY_SIZE, Refusal::WrongCheck, |s, out| raw::frame(s, &[5, 0, 0x64, 0, 0], out));
     // A reset of desk 8, with the one check that is right: the maker would not make it.
     let checked = |n: u16| [5, 8, 0x64, n as u8, (n >> 8) as u8];
@@ -228,12 +228,12 @@ fn no_password_into_ram() {
 }
 
 #[test]
-fn read_refuses_in_rising_number() {
+fn read_refuses_in_order() {
     let q = reset();
     let none = Asked { kind: 2, control: 0, desk: 8, ..q };
     for q in [q, none] {
-        refused(raw::read(q, &[]), Refusal::WrongLength);
-        refused(raw::read(q, &RESET), Refusal::WrongLength);
+        refused(raw::read(q, &[]), Refusal::NoOctets);
+        refused(raw::read(q, &RESET), Refusal::TooShort);
         refused(raw::read(q, &[6, 0, 0x64, 0, 0, 0]), Refusal::WrongCheck);
     }
     let others = [none, Asked { kind: 1, ..q }, Asked { kind: 2, ..q }, Asked { desk: 1, ..q }, Asked { control: 0x63, ..q }, Asked { control: 0x81, ..q }, Asked { control: 0x164, ..q }];

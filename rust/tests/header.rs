@@ -45,7 +45,10 @@ fn codes_are_the_same() {
     let refusals = [
         ("DEPOT_UNSOUND", Refusal::Unsound),
         ("DEPOT_SMALL_BUFFER", Refusal::SmallBuffer),
-        ("DEPOT_WRONG_LENGTH", Refusal::WrongLength),
+        ("DEPOT_NO_OCTETS", Refusal::NoOctets),
+        ("DEPOT_TOO_SHORT", Refusal::TooShort),
+        ("DEPOT_TOO_LONG", Refusal::TooLong),
+        ("DEPOT_LENGTH_DIFFERS", Refusal::LengthDiffers),
         ("DEPOT_WRONG_CHECK", Refusal::WrongCheck),
         ("DEPOT_NO_DESK", Refusal::NoDesk),
         ("DEPOT_OUT_OF_RANGE", Refusal::OutOfRange),

@@ -30,7 +30,7 @@ short-overhead : (k : Kind) → overhead Request k ≤ replyRoom
 short-overhead Standard = omega arith
 short-overhead Advanced = omega arith
 
-pub too-long : (f : List ℕ) → replyRoom < length f → judged Request f ≡ refused 3
+pub too-long : (f : List ℕ) → replyRoom < length f → judged Request f ≡ refused 32
 too-long f h =
     sym (long Request f (kindOf f) refl (omega (arith, short-overhead (kindOf f))) (omega (arith, longest-fits (kindOf f))))
 
@@ -43,7 +43,7 @@ module _ (f g : List ℕ) (room : ℕ) (s : List ℕ) where
   long-alike h l =
       elim (decLt room replyRoom) [
         | yes n ↦ refused-alike 2 (small-buffer f room n) (small-buffer g room n)
-        | no n ↦ refused-alike 3 (judge-refused f room (omega arith) 3 (too-long f h)) (judge-refused g room (omega arith) 3 (too-long g l))
+        | no n ↦ refused-alike 32 (judge-refused f room (omega arith) 32 (too-long f h)) (judge-refused g room (omega arith) 32 (too-long g l))
       ]
 
   module _ (out : List ℕ) (a : Answer) (s′ out′ : List ℕ) where

@@ -22,4 +22,4 @@ seen-small Recorded h = omega arith
 
 pub wrote-fits : (o : Option ℕ) (t out : List ℕ) (a : Written) (out′ : List ℕ) → (o ≡ none → length t < 2 ^ 63) → Wrote o t out a out′ → writtenCode a < 2 ^ 64
 wrote-fits none t out a out′ h w = let l = h refl in rw (w .outcome .0) (omega arith)
-wrote-fits (some n) t out a out′ h w = rw (w .outcome .0 .answer-is) (omega (arith, number-small (w .outcome .0 .why)))
+wrote-fits (some n) t out a out′ h w = rw (w .outcome .0 .answer-is) (omega (arith, number-small (w .outcome .0 .why) .1))

@@ -12,8 +12,8 @@ use Rattle.octets.specs.Areas.{clear}
 use Rattle.octets.proofs.Areas.{clear-apart}
 use Rattle.octets.proofs.Every.{every-at}
 use Rattle.frame.specs.declared.Refusal.{Refusal}
-use Rattle.frame.specs.declared.Refusal.the-variants.{Unsound, SmallBuffer, WrongLength, WrongCheck, NoDesk, OutOfRange, NoRoom, NotTheReply}
 use Rattle.frame.specs.Refusal.{numberOf}
+use Rattle.frame.proofs.Bounds.{number-small}
 use Rattle.rules.specs.declared.Written.{Written}
 use Rattle.codes.specs.Codes.{In, refused, written, rangeCount, rangeAt, writtenCode}
 
@@ -56,14 +56,7 @@ one-range i j n hi hj p q =
 -- ---- a number stands in the range of its kind; of an answer of the box `answer-in` (depot_c), of the reader `told-in` (host_c)
 
 pub number-in : (r : Refusal) → In refused (numberOf r)
-number-in Unsound = (omega arith, omega arith)
-number-in SmallBuffer = (omega arith, omega arith)
-number-in WrongLength = (omega arith, omega arith)
-number-in WrongCheck = (omega arith, omega arith)
-number-in NoDesk = (omega arith, omega arith)
-number-in OutOfRange = (omega arith, omega arith)
-number-in NoRoom = (omega arith, omega arith)
-number-in NotTheReply = (omega arith, omega arith)
+number-in r = (number-small r .0, number-small r .1)
 
 pub written-in : (n : ℕ) → n < 2 ^ 63 → In written (writtenCode (Written.Octets n))
 written-in n h = (omega arith, omega arith)

@@ -1,6 +1,7 @@
 pub mod HostAndBox
 pub mod Steps
 pub mod Lists
+pub mod WhichLength
 pub mod Listed
 pub mod Isolated
 pub mod Useless

@@ -1,10 +1,10 @@
--- The numbers that each call can give, exactly and in rising order: frames 1 to 5, sightings 1, 5, 6, ticks 1, the test of a store 1, a
--- fresh store 1, the maker 5, 6, 7, the reader 3, 4, 8. Assumes nothing.
+-- The numbers that each call can give, exactly and in their order: frames 1, 2, 3, 31, 32, 33, 4, 5, sightings 1, 5, 6, ticks 1, the test of
+-- a store 1, a fresh store 1, the maker 5, 6, 7, the reader 3, 31, 32, 33, 4, 8. Assumes nothing.
 use Prim.Native.Nat.{ℕ}
 use mathlib.Core.Path.{_≡_, refl}
 use mathlib.Core.Bool.{true}
 use mathlib.Core.List.{List, [], _∷_}
-use Rattle.frame.specs.Refusal.{numbersOf, rises}
+use Rattle.frame.specs.Refusal.{numbersOf, rises, inOrder}
 use Rattle.frame.specs.Judged.{faults}
 use Rattle.rules.specs.Box.{Event, frame, sighting, tick, frameRefusals, sightingRefusals}
 use Rattle.depot.specs.Called.{testRefusals, freshRefusals}
@@ -13,8 +13,7 @@ use Rattle.maker.specs.Maker.{makerRefusals}
 use Rattle.reader.specs.Reader.{readerRefusals}
 use Rattle.demands.specs.Answers.{refusalsOf, testsOf}
 
--- 3 stands for each of the paper's three lengths
-pub frame-numbers : (s f : List ℕ) (room : ℕ) → numbersOf (testsOf s (frame f room)) ≡ 1 ∷ 2 ∷ 3 ∷ 3 ∷ 3 ∷ 4 ∷ 5 ∷ []
+pub frame-numbers : (s f : List ℕ) (room : ℕ) → numbersOf (testsOf s (frame f room)) ≡ 1 ∷ 2 ∷ 3 ∷ 31 ∷ 32 ∷ 33 ∷ 4 ∷ 5 ∷ []
 unfolding testsOf testRefusals refusalsOf frameRefusals faults
 frame-numbers s f room = refl
 
@@ -38,16 +37,25 @@ pub maker-numbers : (q : Request) (room : ℕ) → numbersOf (makerRefusals q ro
 unfolding makerRefusals
 maker-numbers q room = refl
 
-pub reader-numbers : (q : Request) (s : List ℕ) → numbersOf (readerRefusals q s) ≡ 3 ∷ 3 ∷ 3 ∷ 4 ∷ 8 ∷ []
+pub reader-numbers : (q : Request) (s : List ℕ) → numbersOf (readerRefusals q s) ≡ 3 ∷ 31 ∷ 32 ∷ 33 ∷ 4 ∷ 8 ∷ []
 unfolding readerRefusals faults
 reader-numbers q s = refl
 
--- ---- and they rise
+-- ---- their order: `testOrder`; where none of 31, 32, 33 is among them, they rise
 
-pub event-rises : (s : List ℕ) (e : Event) → rises (numbersOf (testsOf s e)) ≡ true
-event-rises s (frame f room) = rw (frame-numbers s f room)
-event-rises s (sighting n uid mask) = rw (sighting-numbers s n uid mask)
-event-rises s tick = rw (tick-numbers s)
+pub event-in-order : (s : List ℕ) (e : Event) → inOrder (numbersOf (testsOf s e)) ≡ true
+event-in-order s (frame f room) = rw (frame-numbers s f room)
+event-in-order s (sighting n uid mask) = rw (sighting-numbers s n uid mask)
+event-in-order s tick = rw (tick-numbers s)
+
+pub reader-in-order : (q : Request) (s : List ℕ) → inOrder (numbersOf (readerRefusals q s)) ≡ true
+reader-in-order q s = rw (reader-numbers q s)
+
+pub sighting-rises : (s : List ℕ) (n uid mask : ℕ) → rises (numbersOf (testsOf s (sighting n uid mask))) ≡ true
+sighting-rises s n uid mask = rw (sighting-numbers s n uid mask)
+
+pub tick-rises : (s : List ℕ) → rises (numbersOf (testsOf s tick)) ≡ true
+tick-rises s = rw (tick-numbers s)
 
 pub test-rises : (s : List ℕ) → rises (numbersOf (testRefusals s)) ≡ true
 test-rises s = rw (test-numbers s)
@@ -57,6 +65,3 @@ fresh-rises s = rw (fresh-numbers s)
 
 pub maker-rises : (q : Request) (room : ℕ) → rises (numbersOf (makerRefusals q room)) ≡ true
 maker-rises q room = rw (maker-numbers q room)
-
-pub reader-rises : (q : Request) (s : List ℕ) → rises (numbersOf (readerRefusals q s)) ≡ true
-reader-rises q s = rw (reader-numbers q s)

@@ -3,6 +3,7 @@ use Prim.Native.Nat.{ℕ}
 use mathlib.Core.Path.{_≡_}
 use mathlib.Core.Bool.{Bool, true, false, cond}
 use mathlib.Core.List.{List, [], _∷_, _++_}
+use mathlib.Core.Option.{Option, none, some}
 use lib.ListN.{length, take}
 use Rattle.octets.specs.Parts.{put}
 use Rattle.frame.specs.Refusal.{numberOf, Refuses}
@@ -21,9 +22,16 @@ heard (Reply n) out = reply (take n out)
 heard (Sighted w) out = seen w
 heard Done out = ok
 
+-- the paper's number of a refusal
+abbrev pub numberHeard : Answer → Option ℕ
+numberHeard (Refused r) = some (numberOf r)
+numberHeard (Reply n) = none
+numberHeard (Sighted w) = none
+numberHeard Done = none
+
 -- ---- demand 1: the tests of each call, in their order, and what it answers where none of them is given
 
--- after that of the store frames can meet 2 to 5; sightings 5, 6; ticks none
+-- after that of the store frames can meet 2, 3, 31, 32, 33, 4, 5; sightings 5, 6; ticks none
 unfoldable pub refusalsOf : Event → List (ℕ × Bool)
 refusalsOf (frame f room) = frameRefusals f room
 refusalsOf (sighting n uid mask) = sightingRefusals n mask

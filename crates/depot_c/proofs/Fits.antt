@@ -14,7 +14,7 @@ use Rattle.codes.proofs.Fits.{seen-small}
 use Rattle.depot_c.specs.Coded.{codeOf}
 
 answer-fits : (a : Answer) → Short a → codeOf a < 2 ^ 64
-answer-fits (Answer.Refused r) h = omega (arith, number-small r)
+answer-fits (Answer.Refused r) h = omega (arith, number-small r .1)
 answer-fits (Answer.Reply n) h = omega arith
 answer-fits (Answer.Sighted w) h = omega (arith, seen-small w h)
 answer-fits Answer.Done h = omega arith
@@ -33,11 +33,11 @@ fresh-fits s a s′ c = go (first (freshRefusals s)) (c .made)
   where
     go : (o : Option ℕ) → MadeOf o s a s′ → codeOf a < 2 ^ 64
     go none m = rw (m .0) (omega arith)
-    go (some n) m = rw (m .0 .answer-is) (omega (arith, number-small (m .0 .why)))
+    go (some n) m = rw (m .0 .answer-is) (omega (arith, number-small (m .0 .why) .1))
 
 pub test-fits : (s : List ℕ) (a : Answer) → Tested s a → codeOf a < 2 ^ 64
 test-fits s a c = go (first (testRefusals s)) (c .tested)
   where
     go : (o : Option ℕ) → TestedOf o a → codeOf a < 2 ^ 64
     go none m = rw m (omega arith)
-    go (some n) m = rw (m .answer-is) (omega (arith, number-small (m .why)))
+    go (some n) m = rw (m .answer-is) (omega (arith, number-small (m .why) .1))

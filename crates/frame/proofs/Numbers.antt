@@ -1,20 +1,30 @@
 -- A number of the paper is the number of one refusal. Assumes nothing.
-use Prim.Native.Nat.{ℕ, _-_}
+use Prim.Native.Nat.{ℕ}
 use mathlib.Core.Path.{_≡_, refl, sym, ap, _∙_}
-use mathlib.Core.List.{[], _∷_}
+use mathlib.Core.List.{List, [], _∷_, map}
 use lib.ListN.{getD}
 use Rattle.frame.specs.declared.Refusal.{Refusal}
-use Rattle.frame.specs.declared.Refusal.the-variants.{Unsound, SmallBuffer, WrongLength, WrongCheck, NoDesk, OutOfRange, NoRoom, NotTheReply}
-use Rattle.frame.specs.Refusal.{numberOf, Refuses}
+use Rattle.frame.specs.declared.Refusal.the-variants.{Unsound, SmallBuffer, NoOctets, TooShort, TooLong, LengthDiffers, WrongCheck, NoDesk, OutOfRange, NoRoom, NotTheReply}
+use Rattle.frame.specs.Refusal.{numberOf, Refuses, testOrder, placeIn}
 
--- the refusal of a number, 1 and up
+-- each of them, in the order of the tests
+abbrev refusals : List Refusal
+refusals = Unsound ∷ SmallBuffer ∷ NoOctets ∷ TooShort ∷ TooLong ∷ LengthDiffers ∷ WrongCheck ∷ NoDesk ∷ OutOfRange ∷ NoRoom ∷ NotTheReply ∷ []
+
+pub order-of-all : map numberOf refusals ≡ testOrder
+order-of-all = refl
+
+-- the refusal of a number
 abbrev refusalOf : ℕ → Refusal
-refusalOf n = getD (Unsound ∷ SmallBuffer ∷ WrongLength ∷ WrongCheck ∷ NoDesk ∷ OutOfRange ∷ NoRoom ∷ NotTheReply ∷ []) (n - 1) Unsound
+refusalOf n = getD refusals (placeIn testOrder n) Unsound
 
 refusal-back : (r : Refusal) → refusalOf (numberOf r) ≡ r
 refusal-back Unsound = refl
 refusal-back SmallBuffer = refl
-refusal-back WrongLength = refl
+refusal-back NoOctets = refl
+refusal-back TooShort = refl
+refusal-back TooLong = refl
+refusal-back LengthDiffers = refl
 refusal-back WrongCheck = refl
 refusal-back NoDesk = refl
 refusal-back OutOfRange = refl

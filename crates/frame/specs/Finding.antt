@@ -10,3 +10,8 @@ pub data Finding (A : Type 0) : Type 0 where
 abbrev pub finding : {A : Type 0} → Option ℕ → A → Finding A
 finding none a = found a
 finding (some n) a = refused n
+
+-- the number of a refusal
+abbrev pub numberIn : {A : Type 0} → Finding A → Option ℕ
+numberIn (refused n) = some n
+numberIn (found a) = none

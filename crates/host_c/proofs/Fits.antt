@@ -6,16 +6,18 @@ use mathlib.Core.List.{List, []}
 use mathlib.Core.Option.{Option, none, some}
 use native.Mathlib.Omega.{arith}
 use lib.ListN.{length}
-use lib.Dec.{ltb, lit≤}
+use lib.Dec.{ltb, lit<}
 use borrow.Author.Tests.{ltb-false}
 use Rattle.octets.specs.Tests.{first}
 use Rattle.octets.specs.Numbers.{Octets}
 use Rattle.octets.specs.Each.{All}
 use Rattle.octets.proofs.Tests.{none-head, none-tail}
-use Rattle.octets.proofs.Each.{given-each}
+use Rattle.octets.proofs.Each.{all-append, given-each}
 use Rattle.frame.specs.declared.Kind.{Kind}
 use Rattle.frame.specs.declared.Kind.the-variants.{Standard, Advanced}
+use Rattle.frame.specs.declared.Way.the-variants.{Reply}
 use Rattle.frame.specs.Shape.{shapeOf}
+use Rattle.frame.proofs.Bounds.{faults-small}
 use Rattle.frame.specs.Finding.{finding}
 use Rattle.frame.specs.Judged.{kindOf, faults, partsOf}
 use Rattle.rules.specs.declared.Written.{Written}
@@ -55,11 +57,11 @@ all-lined-fits block sent out a out′ h w =
 -- ---- the reader
 
 -- its refusals are numbers of the paper
-reader-small : (q : Request) (s : List ℕ) → All (λ (t : ℕ × Bool). t .0 ≤ 8) (readerRefusals q s)
-unfolding readerRefusals faults
-reader-small q s = (lit≤ tt, (lit≤ tt, (lit≤ tt, (lit≤ tt, (lit≤ tt, tt)))))
+reader-small : (q : Request) (s : List ℕ) → All (λ (t : ℕ × Bool). t .0 < 64) (readerRefusals q s)
+unfolding readerRefusals
+reader-small q s = all-append (λ (t : ℕ × Bool). t .0 < 64) (faults Reply s) _ (faults-small Reply s) (lit< tt, tt)
 
-finding-fits : (o : Option ℕ) (t : Told) → ((n : ℕ) → o ≡ some n → n ≤ 8) → t .status < 256 → t .start ≤ 6 → t .len < 2 ^ 63 → readCode (finding o t) < 2 ^ 64
+finding-fits : (o : Option ℕ) (t : Told) → ((n : ℕ) → o ≡ some n → n < 64) → t .status < 256 → t .start ≤ 6 → t .len < 2 ^ 63 → readCode (finding o t) < 2 ^ 64
 finding-fits none t h a b c = omega arith
 finding-fits (some n) t h a b c = omega (arith, h n refl)
 
@@ -70,4 +72,4 @@ lead-small Advanced = omega arith
 pub read-fits : (q : Request) (s : List ℕ) → Octets s → length s < 2 ^ 63 → readCode (readAs q s) < 2 ^ 64
 unfolding readAs toldOf partsOf
 read-fits q s o h =
-    finding-fits (first (readerRefusals q s)) _ (λ n e. given-each (λ (k : ℕ). k ≤ 8) (readerRefusals q s) n (reader-small q s) e) (o _) (omega (arith, lead-small (kindOf s))) (omega arith)
+    finding-fits (first (readerRefusals q s)) _ (λ n e. given-each (λ (k : ℕ). k < 64) (readerRefusals q s) n (reader-small q s) e) (o _) (omega (arith, lead-small (kindOf s))) (omega arith)

@@ -5,16 +5,16 @@ use mathlib.Core.List.{List}
 use mathlib.Core.Option.{none}
 use native.Mathlib.Omega.{arith}
 use lib.ListN.{length}
-use borrow.Author.Tests.{ltb-false}
 use Rattle.octets.specs.Tests.{first}
 use Rattle.octets.specs.Numbers.{Octets}
-use Rattle.octets.proofs.Tests.{none-head, none-tail}
+use Rattle.octets.proofs.Tests.{none-append}
 use Rattle.frame.specs.declared.Way.the-variants.{Reply}
-use Rattle.frame.specs.Shape.{shapeOf, replyRoom}
+use Rattle.frame.specs.Shape.{replyRoom}
 use Rattle.frame.specs.Finding.{Finding, found}
 use Rattle.frame.proofs.Finding.{finding-found}
 use Rattle.frame.specs.Judged.{kindOf, faults, partsOf}
 use Rattle.frame.proofs.Bounds.{longest-fits}
+use Rattle.frame.proofs.Verdict.{passed}
 use Rattle.requests.specs.declared.Request.{Request}
 use Rattle.reader.specs.declared.Told.{Told}
 use Rattle.reader.specs.Reader.{toldOf, readerRefusals, readAs}
@@ -30,8 +30,8 @@ pub record Small (t : Told) : Type 0 where
 module _ (q : Request) (s : List ℕ) (octets : Octets s) where
   -- a frame that is not refused is no longer than its kind allows
   short : first (readerRefusals q s) ≡ none → length s ≤ replyRoom
-  unfolding readerRefusals faults
-  short e = omega (arith, ltb-false (shapeOf (kindOf s) .longest) (length s) (none-head 3 _ _ (none-tail 3 _ _ e)), longest-fits (kindOf s))
+  unfolding readerRefusals
+  short e = omega (arith, passed Reply s (none-append (faults Reply s) _ e) .within, longest-fits (kindOf s))
 
   here : length s ≤ replyRoom → Small (toldOf (partsOf Reply s) s)
   unfolding toldOf partsOf

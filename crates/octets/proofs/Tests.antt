@@ -66,13 +66,13 @@ module _ {A : Type 0} where
       go true q f = absurd (false≢true q)
       go false q f = f q
 
-  pub none-append : (ts us : List (A × Bool)) → first (ts ++ us) ≡ none → noneGiven (first ts) ≡ true
-  unfolding first noneGiven
+  pub none-append : (ts us : List (A × Bool)) → first (ts ++ us) ≡ none → first ts ≡ none
+  unfolding first
   none-append [] us e = refl
   none-append (t ∷ ts) us e = go (t .1) e (none-append ts us)
     where
-      go : (b : Bool) → cond b (some (t .0)) (first (ts ++ us)) ≡ none → (first (ts ++ us) ≡ none → noneGiven (first ts) ≡ true)
-          → noneGiven (cond b (some (t .0)) (first ts)) ≡ true
+      go : (b : Bool) → cond b (some (t .0)) (first (ts ++ us)) ≡ none → (first (ts ++ us) ≡ none → first ts ≡ none)
+          → cond b (some (t .0)) (first ts) ≡ none
       go true q f = cc
       go false q f = f q
 

@@ -41,7 +41,7 @@ answersTo q f s =
     sameKind (f .kind) (q .kind) && eqb (f .address) (q .desk) && eqb (f .control) (controlOf (q .ask))
     && possible q (toldOf f s .status) (f .len) && countRight (f .control) (dataOf f s)
 
--- the reader can meet 3, 4, 8, in rising number: the frame's faults; a frame that does not answer the request
+-- the reader can meet 3, 31, 32, 33, 4, then 8: the frame's faults; a frame that does not answer the request
 unfoldable pub readerRefusals : Request → List ℕ → List (ℕ × Bool)
 readerRefusals q s = faults Reply s ++ ((8, not (answersTo q (partsOf Reply s) s)) ∷ [])
 

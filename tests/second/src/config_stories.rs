@@ -106,6 +106,7 @@ pub fn passwords(gen: &mut Gen) {
     gen.write(desk, memory, &new);
     if gen.random.one_in(4) {
         gen.request(desk, 0x63, &[]);
+        gen.write(desk, 0x00, &new);
     }
     gen.request(desk, 0x80, &[0x0C]);
     gen.request(desk, 0xA0, &new[..4]);

@@ -2,6 +2,7 @@
 
 use crate::command::{fitting, known};
 use crate::frame::{judge_request, Frame, Kind, Refusal};
+use crate::lengths;
 use crate::listing::{event, serve, Answer, Event};
 use crate::model::{Depot, Desk, Seen, Uid, DESKS, LOCKS, TAB_SIZE};
 use crate::situations::{self, not_read_shape};
@@ -139,6 +140,9 @@ impl Coverage {
 
     fn frame(&mut self, line: &[u8], octets: &[u8]) {
         self.count(&format!("hex: {}", situations::case(line)));
+        if let Some(cell) = lengths::cell(octets, Kind::shortest_request) {
+            self.count(&format!("frame: {cell}"));
+        }
         match judge_request(octets) {
             Err(refusal) => self.refused(octets, refusal),
             Ok(frame) if usize::from(frame.address) >= DESKS => {
@@ -233,6 +237,8 @@ impl Coverage {
         let two = before.ram[0][..4] != before.eeprom[0][..4];
         let all = frame.rest[0] & 0x7F == 0x40;
         let named = all || frame.rest[0] & 0x7F == 0;
+        let unasked = frame.control == 0x81 && frame.rest[0] == 0 && !before.logged_in;
+        self.count_if(unasked, "0x81: RAM block 0, nobody logged in");
         self.count_if(status == 0x16 && two, "0x81: 0x16, EEPROM has another password");
         self.count_if(status == 0x16 && !two, "0x81: 0x16, EEPROM has the same password");
         if frame.control == 0x82 && status == 0 && two && named {

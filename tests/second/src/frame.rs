@@ -10,7 +10,10 @@ pub const LONGEST: usize = 842;
 pub enum Refusal {
     Store = 1,
     ReplyBuffer = 2,
-    Length = 3,
+    NoOctets = 3,
+    TooShort = 31,
+    TooLong = 32,
+    LengthField = 33,
     Crc = 4,
     Desk = 5,
     Argument = 6,
@@ -107,14 +110,17 @@ pub fn judge_reply(octets: &[u8]) -> Result<Frame<'_>, Refusal> {
 }
 
 fn judge(octets: &[u8], shortest: fn(Kind) -> usize) -> Result<Frame<'_>, Refusal> {
-    let first = *octets.first().ok_or(Refusal::Length)?;
+    let first = *octets.first().ok_or(Refusal::NoOctets)?;
     let kind = Kind::of(first);
     let length = octets.len();
-    if length < shortest(kind) || length > kind.longest() {
-        return Err(Refusal::Length);
+    if length < shortest(kind) {
+        return Err(Refusal::TooShort);
+    }
+    if length > kind.longest() {
+        return Err(Refusal::TooLong);
     }
     if kind.length_field(octets) != Some(length) {
-        return Err(Refusal::Length);
+        return Err(Refusal::LengthField);
     }
     let (body, sent) = octets.split_at(length - CRC_OCTETS);
     if crc::of(body).to_le_bytes() != sent {
@@ -122,6 +128,12 @@ fn judge(octets: &[u8], shortest: fn(Kind) -> usize) -> Result<Frame<'_>, Refusa
     }
     let at = kind.head();
     Ok(Frame { kind, address: body[at], control: body[at + 1], rest: &body[at + 2..] })
+}
+
+/// The CRC of the octets before the last two, put there.
+pub fn reseal(octets: &mut [u8]) {
+    let (body, sum) = octets.split_at_mut(octets.len() - CRC_OCTETS);
+    sum.copy_from_slice(&crc::of(body).to_le_bytes());
 }
 
 /// The caller keeps within the longest length of the kind.

@@ -98,10 +98,10 @@ pub struct Read<'a> {
     pub data: &'a [u8],
 }
 
-/// The reader: 3, 4, then 8.
+/// The reader: 3, 31, 32, 33, 4, then 8.
 pub fn read<'a>(kind: Kind, desk: u64, request: &Request, reply: &'a [u8]) -> Result<Read<'a>, Refusal> {
     let frame = judge_reply(reply)?;
-    let (&status, data) = frame.rest.split_first().ok_or(Refusal::Length)?;
+    let (&status, data) = frame.rest.split_first().ok_or(Refusal::TooShort)?;
     let same = frame.kind == kind && u64::from(frame.address) == desk && frame.control == request.control();
     let answered = same && desk < DESKS as u64 && possible(kind, request, status, data.len());
     if !answered || !count_agrees(request, data) {

@@ -10,6 +10,7 @@ pub mod data;
 pub mod frame;
 pub mod gen;
 pub mod host;
+pub mod lengths;
 pub mod lines;
 pub mod listing;
 pub mod model;

@@ -1,9 +1,9 @@
 //! Lines that no desk answers, or that it answers with 0x80 or 0x81.
 
 use crate::command::known;
-use crate::crc;
-use crate::frame::{seal, Kind, LONGEST};
+use crate::frame::{reseal, seal, Kind, LONGEST};
 use crate::gen::Gen;
+use crate::lengths;
 
 /// A request that is sound but for its length, which may be any up to 900;
 /// now and then with more behind it.
@@ -115,11 +115,6 @@ fn invert_crc(octets: &mut [u8]) {
     octets[end - 2] ^= 0xFF;
 }
 
-fn reseal(octets: &mut [u8]) {
-    let (body, sum) = octets.split_at_mut(octets.len() - 2);
-    sum.copy_from_slice(&crc::of(body).to_le_bytes());
-}
-
 /// The length field lies, the CRC is right.
 fn false_length(gen: &mut Gen, octets: &mut [u8]) {
     let at = if octets[0] == 2 { gen.random.pick(&[1, 2]) } else { 0 };
@@ -151,6 +146,12 @@ fn foreign(gen: &mut Gen, octets: &mut [u8]) {
     if gen.random.one_in(3) {
         flip_crc(gen, octets);
     }
+}
+
+/// A frame at an edge of the table of lengths.
+pub fn at_an_edge(gen: &mut Gen) {
+    let octets = lengths::at_an_edge(&gen.random, Kind::shortest_request);
+    gen.octets(&octets);
 }
 
 /// Frames with a right CRC that are too short to be frames.

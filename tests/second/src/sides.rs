@@ -9,6 +9,7 @@ use crate::data;
 use crate::frame::{seal, Kind, Refusal};
 use crate::gen::Gen;
 use crate::host::{make, read, Request};
+use crate::lengths;
 use crate::lines::{line, lines};
 use crate::listing::{capital_hex, event, text, Answer, Event};
 use crate::model::{Depot, Record, RECORD, TAB_SIZE};
@@ -192,10 +193,11 @@ pub fn interesting(random: &Random, store: &[u8]) -> usize {
     }
 }
 
-/// A field of some row, with the last number that may stand there or the first that may not.
+/// A field of some row, with the last number that may stand there or the first that may not; the ticks of a lock, with none or one.
 fn at_its_edge(random: &Random, store: &[u8]) -> (usize, u8) {
     let row = rows_at(store) + random.below(8) * ROW;
-    let last = [(LOGGED_IN, 1), (TIMER, 23), (TIMER + 1, 59), (MARK, 1), (TAB_START, 63), (LOCK_COUNT, 64)];
+    let ticks = LOCK_LIST + LOCK * random.below(3) + 9;
+    let last = [(LOGGED_IN, 1), (TIMER, 23), (TIMER + 1, 59), (MARK, 1), (TAB_START, 63), (LOCK_COUNT, 64), (ticks, 0)];
     let (field, last) = random.pick(&last);
     (row + field, last + random.below(2) as u8)
 }
@@ -299,8 +301,11 @@ pub fn any_request(gen: &mut Gen) -> Request {
     }
 }
 
-/// What a desk answers, now and then with one thing changed.
+/// What a desk answers, now and then with one thing changed; or a frame at an edge of the table of lengths.
 pub fn any_reply(random: &Random, kind: Kind, desk: u8, request: &Request) -> Vec<u8> {
+    if random.one_in(5) {
+        return lengths::at_an_edge(random, Kind::shortest_reply);
+    }
     let mut rest = box_answer(random, kind, request);
     let (mut kind, mut address, mut control) = (kind, desk, request.control());
     match random.below(16) {

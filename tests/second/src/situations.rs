@@ -1,6 +1,7 @@
 //! The situations that random events must reach, and the names of shapes.
 
 use crate::frame::{Kind, Refusal, LONGEST};
+use crate::lengths;
 use crate::shapes::CONTROLS;
 
 /// The status octets of each command beside 0x81.
@@ -21,9 +22,7 @@ pub fn required() -> Vec<String> {
     for kind in Kind::BOTH {
         names.push(format!("unknown answers 0x80, {kind:?}"));
         names.push(format!("frame: refused 5, {kind:?}"));
-        for shape in ["too short", "length field"] {
-            names.push(format!("frame: refused 3, {kind:?} {shape}"));
-        }
+        names.extend(["31", "32", "33"].map(|number| format!("frame: refused {number}, {kind:?}")));
         for control in CONTROLS {
             let own = statuses(control).iter().chain(&[0x81]);
             let possible = own.filter(|&&status| kind == Kind::Standard || status != 0x94);
@@ -35,6 +34,7 @@ pub fn required() -> Vec<String> {
         names.extend(ADR_SHAPES.map(|shape| format!("{control:#04X}: {shape}")));
     }
     names.extend([0, 1, 19, 20, 63, 64, 65, 65535].map(|k| format!("0x22: k = {k}")));
+    names.extend(lengths::cells(Kind::shortest_request).iter().map(|cell| format!("frame: {cell}")));
     names.extend(NOT_READ.map(|shape| format!("not read: {shape}")));
     names
 }
@@ -111,7 +111,7 @@ pub fn case(line: &[u8]) -> &'static str {
     }
 }
 
-/// What is wrong with a frame that is refused 3 or 4.
+/// What a frame that is refused for its length or its CRC shows.
 pub fn refused_shape(octets: &[u8], refusal: Refusal) -> String {
     let Some(&first) = octets.first() else {
         return "empty".into();
@@ -121,23 +121,11 @@ pub fn refused_shape(octets: &[u8], refusal: Refusal) -> String {
         let foreign = octets[kind.head()] > 7;
         return format!("{kind:?}{}", CRC_SHAPES[usize::from(foreign)]);
     }
-    let field = octets.get(1..3).map(|field| usize::from(field[0]) * 256 + usize::from(field[1]));
-    let agrees = kind == Kind::Advanced && field == Some(octets.len());
-    match octets.len() {
-        n if n < kind.shortest_request() => format!("{kind:?} too short"),
-        n if n == LONGEST + 1 && agrees => "Advanced of one too many".into(),
-        n if n > kind.longest() && agrees => "Advanced too long, field agrees".into(),
-        n if n > kind.longest() => format!("{kind:?} too long"),
-        _ => format!("{kind:?} length field"),
-    }
+    format!("{kind:?}")
 }
 
-const FIXED: [&str; 88] = [
+const FIXED: [&str; 85] = [
     "frame: refused 3, empty",
-    "frame: refused 3, Standard too long",
-    "frame: refused 3, Advanced too long",
-    "frame: refused 3, Advanced too long, field agrees",
-    "frame: refused 3, Advanced of one too many",
     "hex: empty line",
     "hex: small",
     "hex: capital",
@@ -209,6 +197,7 @@ const FIXED: [&str; 88] = [
     "0x33 while locks stand",
     "0x63 while locks stand",
     "0x64 while locks stand",
+    "0x81: RAM block 0, nobody logged in",
     "0x81: 0x16, EEPROM has another password",
     "0x81: 0x16, EEPROM has the same password",
     "0x82: all blocks, RAM's password put back",

@@ -6,13 +6,14 @@ use crate::{config_stories, record_stories, shapes};
 type Story = fn(&mut Gen);
 
 /// Each story and how often it is told.
-const STORIES: [(usize, Story); 28] = [
+const STORIES: [(usize, Story); 29] = [
     (120, any_command),
     (60, shapes::wrong_length),
     (16, shapes::unknown_control),
     (70, shapes::broken_frame),
     (70, shapes::any_length),
     (16, shapes::too_short),
+    (40, shapes::at_an_edge),
     (12, shapes::noise),
     (80, shapes::malformed),
     (16, config_stories::passwords),

@@ -115,8 +115,8 @@ fn the_reader_refuses() {
     assert_eq!(sealed(Kind::Standard, 1, 0x23, &one(1)), Err(Refusal::Reply));
     assert_eq!(sealed(Kind::Advanced, 1, 0x22, &one(1)), Err(Refusal::Reply));
     assert_eq!(sealed(Kind::Standard, 1, 0x22, &[0x80]), Err(Refusal::Reply));
-    assert_eq!(sealed(Kind::Standard, 1, 0x22, &[]), Err(Refusal::Length));
-    assert_eq!(sealed(Kind::Advanced, 1, 0x22, &[]), Err(Refusal::Length));
+    assert_eq!(sealed(Kind::Standard, 1, 0x22, &[]), Err(Refusal::TooShort));
+    assert_eq!(sealed(Kind::Advanced, 1, 0x22, &[]), Err(Refusal::TooShort));
     let mut broken = seal(Kind::Standard, 2, 0x22, &one(1));
     broken[3] ^= 1;
     assert_eq!(judge(&broken), Err(Refusal::Crc));

@@ -37,7 +37,7 @@ fn m3_m4_m5_frames() {
     exchange("05 00 64 AC 25", "06 00 64 00 8E 4A");
     let advanced = octets("02 00 07 00 64 27 8F");
     assert_eq!(judge_request(&advanced).map(|frame| frame.kind), Ok(Kind::Advanced));
-    assert_eq!(judge_request(&[4, 0, 0, 0]), Err(Refusal::Length));
+    assert_eq!(judge_request(&[4, 0, 0, 0]), Err(Refusal::TooShort));
 }
 
 #[test]

@@ -116,7 +116,7 @@ fn refusals_rise() {
     let wrong = [5, 9, 0x64, 0, 0];
     assert_eq!(place::frame(&mut bad, &[], &mut short), Err(Refusal::Store));
     assert_eq!(place::frame(&mut good, &[], &mut short), Err(Refusal::ReplyBuffer));
-    assert_eq!(place::frame(&mut good, &[], &mut out), Err(Refusal::Length));
+    assert_eq!(place::frame(&mut good, &[], &mut out), Err(Refusal::NoOctets));
     assert_eq!(place::frame(&mut good, &wrong, &mut out), Err(Refusal::Crc));
     assert_eq!(place::sighting(&mut good, 8, [0; 8], 0), Err(Refusal::Desk));
     assert_eq!(place::sighting(&mut good, u64::MAX, [0; 8], 1), Err(Refusal::Desk));

@@ -144,13 +144,26 @@ fn overflow(gen: &mut Gen, desk: usize) {
     gen.request(desk, 0x33, &[]);
 }
 
+/// Each wrong length (document 02, i), and ALENGTH cut off.
+fn lengths(gen: &mut Gen, desk: usize) {
+    let frame = seal(Kind::Standard, desk as u8, 0x33, &[]);
+    for octets in [&[][..], &[2], &[2, 0], &[4, 0, 0x64, 0], &[2, 0, 6, 0, 0x33, 0, 0], &frame] {
+        gen.octets(octets);
+    }
+    for n in [6, 255, 256] {
+        let mut longer = frame.clone();
+        longer.resize(n, 0);
+        gen.octets(&longer);
+    }
+}
+
 fn tell(gen: &mut Gen, story: Story) {
     let desk = gen.any_desk();
     story(gen, desk);
 }
 
 /// Every other status than 0x00, every refusal of the box and every outcome of a sighting.
-const MET: [&str; 23] = [
+const MET: [&str; 26] = [
     "0x52 answers 0x11",
     "0x80 answers 0x13",
     "0xA0 answers 0x14",
@@ -164,6 +177,9 @@ const MET: [&str; 23] = [
     "0x22 answers 0x94",
     "refused 2",
     "refused 3",
+    "refused 31",
+    "refused 32",
+    "refused 33",
     "refused 4",
     "refused 5",
     "refused 6",
@@ -228,7 +244,7 @@ fn append(list: &mut String, entry: &str) {
 fn module(seed: u64, most: usize) -> Module {
     let (mut gen, mut depot) = (Gen::new(seed), Depot::fresh());
     let mut module = Module { events: String::new(), answers: String::new(), count: 0, octets: 0, met: must_meet() };
-    STORIES.iter().chain(&[overflow as Story]).for_each(|&story| tell(&mut gen, story));
+    STORIES.iter().chain(&[overflow as Story, lengths]).for_each(|&story| tell(&mut gen, story));
     while module.octets < most {
         if gen.random.one_in(25) {
             let story = gen.random.pick(&STORIES);

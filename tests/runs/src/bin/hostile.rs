@@ -12,6 +12,7 @@ use second::data;
 use second::frame::Kind;
 use second::gen::Gen;
 use second::host::Request;
+use second::lengths;
 use second::model::{DESKS, RECORD};
 use second::place::{self, REPLY_BUFFER};
 use second::random::Random;
@@ -184,6 +185,9 @@ impl Hostile {
         let code = q.read(&reply);
         assert_eq!(depot::raw::read(q.raw(), &reply), code, "read {q:?} {reply:02X?}");
         self.tally.count(&format!("read: {}{}", outcome(code), remark(&q)));
+        if let Some(cell) = lengths::cell(&reply, Kind::shortest_reply) {
+            self.tally.count(&format!("read: {cell}"));
+        }
     }
 
     fn line_writer(&mut self) {

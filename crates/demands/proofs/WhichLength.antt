@@ -1,0 +1,99 @@
+-- What an installer is told of a length (document 02, i), by the calls themselves: the number that the table of `whichLength` gives, from the
+-- number of octets and the first three of them; and one of the four numbers for nothing else. Assumes nothing.
+use Prim.Native.Nat.{ℕ}
+use mathlib.Core.Path.{_≡_, refl, ap, _∙_}
+use mathlib.Core.Bool.{Bool, true, false, cond, not, _&&_}
+use mathlib.Core.List.{List, [], _∷_, _++_}
+use mathlib.Core.Option.{Option, none, some}
+use lib.Dec.{leb}
+use native.Mathlib.Decide.{decLt}
+use native.Mathlib.Omega.{arith}
+use borrow.Author.Tests.{lt-ltb, le-ltb, lt-leb, le-leb}
+use Rattle.octets.specs.Tests.{first}
+use Rattle.frame.specs.declared.Way.the-variants.{Request as ToBox, Reply as FromBox}
+use Rattle.frame.specs.Shape.{replyRoom}
+use Rattle.frame.specs.Finding.{numberIn}
+use Rattle.frame.specs.Judged.{faults, partsOf}
+use Rattle.frame.specs.WhichLength.{whichOf, isOfLength, ofLength}
+use Rattle.frame.proofs.Finding.{number-found}
+use Rattle.frame.proofs.WhichLength.{which-fault}
+use Rattle.rules.specs.Box.{Box, frame, refused, reply, seen, ok, Answer as RuleAnswer, deskAt, request, served, placed, unlessRefused, noDesk, frameRefusals, step}
+use Rattle.store.specs.Sound.{sound}
+use Rattle.store.specs.View.{view}
+use Rattle.events.specs.declared.Answer.{Answer}
+use Rattle.events.specs.Happened.{Ended}
+use Rattle.depot.specs.Called.{stepOn, Called}
+use Rattle.requests.specs.declared.Request.{Request}
+use Rattle.reader.specs.Reader.{toldOf, answersTo, readerRefusals, readAs}
+use Rattle.demands.specs.Answers.{numberHeard}
+
+-- other tests behind those of the length
+behind : (ts us : List (ℕ × Bool)) → ofLength (first us) ≡ none → ofLength (first (ts ++ us)) ≡ ofLength (first ts)
+unfolding first
+behind [] us h = h
+behind (t ∷ ts) us h = go (t .1) (behind ts us h)
+  where
+    go : (b : Bool) → ofLength (first (ts ++ us)) ≡ ofLength (first ts) → ofLength (cond b (some (t .0)) (first (ts ++ us))) ≡ ofLength (cond b (some (t .0)) (first ts))
+    go true p = refl
+    go false p = p
+
+a-number : (k : ℕ) (b : Bool) → isOfLength k ≡ false → ofLength (first ((k, b) ∷ [])) ≡ none
+unfolding first
+a-number k true h = rw h
+a-number k false h = refl
+
+-- ---- the host's reader
+
+pub reader-tells : (q : Request) (s : List ℕ) → ofLength (numberIn (readAs q s)) ≡ whichOf FromBox s
+unfolding readAs readerRefusals
+reader-tells q s =
+    let other = not (answersTo q (partsOf FromBox s) s) in
+    ap ofLength (number-found (first (readerRefusals q s)) (toldOf (partsOf FromBox s) s)) ∙ behind (faults FromBox s) ((8, other) ∷ []) (a-number 8 other refl)
+    ∙ which-fault FromBox s
+
+-- ---- the box
+
+frame-tells : (f : List ℕ) (room : ℕ) → ofLength (first (frameRefusals f room)) ≡ cond (leb replyRoom room) (whichOf ToBox f) none
+unfolding frameRefusals first
+frame-tells f room =
+    elim (decLt room replyRoom) [
+      | yes h ↦ rw (lt-ltb room replyRoom h, lt-leb replyRoom room h)
+      | no h ↦ rw (le-ltb room replyRoom (omega arith), le-leb replyRoom room (omega arith))
+          (behind (faults ToBox f) ((5, noDesk (request f .address)) ∷ []) (a-number 5 (noDesk (request f .address)) refl) ∙ which-fault ToBox f)
+    ]
+
+abbrev numberGiven : RuleAnswer → Option ℕ
+numberGiven (refused n) = some n
+numberGiven (reply t) = none
+numberGiven (seen w) = none
+numberGiven ok = none
+
+step-number : (box : Box) (f : List ℕ) (room : ℕ) → numberGiven (step box (frame f room) .answer) ≡ first (frameRefusals f room)
+unfolding step placed served unlessRefused
+step-number box f room = go (first (frameRefusals f room))
+  where
+    go : (o : Option ℕ) → numberGiven (unlessRefused o box (placed box (request f .address) (served f (deskAt box (request f .address)))) .answer) ≡ o
+    go none = refl
+    go (some n) = refl
+
+on-number : (s f : List ℕ) (room : ℕ) → ofLength (numberGiven (stepOn s (frame f room) .answer)) ≡ cond (sound s && leb replyRoom room) (whichOf ToBox f) none
+unfolding stepOn
+on-number s f room = go (sound s)
+  where
+    go : (b : Bool) → ofLength (numberGiven (cond b (step (view s) (frame f room)) record { answer = refused 1; box = view s } .answer))
+        ≡ cond (b && leb replyRoom room) (whichOf ToBox f) none
+    go true = ap ofLength (step-number (view s) f room) ∙ frame-tells f room
+    go false = refl
+
+module _ (box : Box) (s out : List ℕ) (a : Answer) (s′ out′ : List ℕ) where
+  ended-number : (t : RuleAnswer) → Ended t box s out a s′ out′ → numberHeard a ≡ numberGiven t
+  ended-number (refused n) p = ap numberHeard (p .0 .answer-is) ∙ ap some (p .0 .number-is)
+  ended-number (reply t) p = ap numberHeard (p .0)
+  ended-number (seen w) p = ap numberHeard (p .0)
+  ended-number ok p = ap numberHeard (p .0)
+
+-- whatever the store and the room: with a sound one and enough of it the table's number, else 1 or 2
+pub box-tells : (f : List ℕ) (room : ℕ) (s out : List ℕ) (a : Answer) (s′ out′ : List ℕ) → Called (frame f room) s out a s′ out′
+    → ofLength (numberHeard a) ≡ cond (sound s && leb replyRoom room) (whichOf ToBox f) none
+box-tells f room s out a s′ out′ c =
+    ap ofLength (ended-number (stepOn s (frame f room) .box) s out a s′ out′ (stepOn s (frame f room) .answer) (c .ended)) ∙ on-number s f room
