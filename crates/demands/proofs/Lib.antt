@@ -1,8 +1,8 @@
 pub mod HostAndBox
 pub mod Steps
 pub mod Lists
-pub mod WhichLength
 pub mod Listed
+pub mod WhichLength
 pub mod Isolated
 pub mod Useless
 pub mod Demands

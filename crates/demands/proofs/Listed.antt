@@ -9,57 +9,61 @@ use native.Mathlib.Omega.{arith}
 use Rattle.octets.specs.Tests.{first}
 use Rattle.frame.specs.declared.Refusal.{Refusal}
 use Rattle.frame.specs.Refusal.{numberOf}
-use Rattle.frame.proofs.Numbers.{refuses-number}
-use Rattle.rules.specs.Box.{Box, deskAt, Event, frame, sighting, tick, Answer as RuleAnswer, refused, reply, seen, ok, Step, request, served, sighted, placed, unlessRefused, frameRefusals, sightingRefusals, step}
+use Rattle.rules.specs.Box.{Box, Event, frame, sighting, tick, Answer as RuleAnswer, refused, reply, seen, ok, Step, served, sighted, placed, unlessRefused, frameRefusals, sightingRefusals, step}
 use Rattle.store.specs.View.{view}
 use Rattle.store.specs.Sound.{sound}
 use Rattle.events.specs.declared.Answer.{Answer}
 use Rattle.events.specs.declared.Answer.the-variants.{Refused}
 use Rattle.events.specs.Happened.{Ended}
 use Rattle.depot.specs.Called.{stepOn, Called, testRefusals}
-use Rattle.demands.specs.Answers.{heard, refusalsOf, testsOf, ofItsKind}
+use Rattle.demands.specs.Answers.{heard, numberHeard, refusalsOf, testsOf, ofItsKind}
 
--- ---- a refused call: the rules refuse with that number, and it writes nothing
+-- ---- the number that is heard is the first of the event's list that is given; where none is, none is heard
 
-module _ (box : Box) (s out : List ℕ) (a : Answer) (s′ out′ : List ℕ) (r : Refusal) (e : a ≡ Refused r) where
-  ended-refused : (t : RuleAnswer) → Ended t box s out a s′ out′ → (t ≡ refused (numberOf r)) × (s′ ≡ s) × (out′ ≡ out)
-  ended-refused (refused n) p =
-      let same : p .0 .why ≡ r = cc (p .0 .answer-is) in
-      (ap refused (refuses-number (p .0 .number-is) same), p .1 .0, p .1 .1)
-  ended-refused (reply t) p = let z : _≡_ {A = ℕ} 0 1 = cc in absurd (omega arith)
-  ended-refused (seen w) p = let z : _≡_ {A = ℕ} 0 1 = cc in absurd (omega arith)
-  ended-refused ok p = let z : _≡_ {A = ℕ} 0 1 = cc in absurd (omega arith)
-
--- ---- the rules refuse with the first number of the event's list that is given
-
-unless-first : (o : Option ℕ) (box : Box) (st : Step) (n : ℕ) → ((k : ℕ) → st .answer ≡ refused k → ⊥) → unlessRefused o box st .answer ≡ refused n → o ≡ some n
+unless-number : (o : Option ℕ) (box : Box) (st : Step) → numberHeard (st .answer) ≡ none → numberHeard (unlessRefused o box st .answer) ≡ o
 unfolding unlessRefused
-unless-first none box st n never e = absurd (never n e)
-unless-first (some k) box st n never e = cc
+unless-number none box st h = h
+unless-number (some n) box st h = refl
 
-step-first : (box : Box) (e : Event) (n : ℕ) → step box e .answer ≡ refused n → first (refusalsOf e) ≡ some n
+step-number : (box : Box) (e : Event) → numberHeard (step box e .answer) ≡ first (refusalsOf e)
 unfolding step placed refusalsOf
-step-first box (frame f room) n e =
-    unless-first (first (frameRefusals f room)) box (placed box (request f .address) (served f (deskAt box (request f .address)))) n
-    (λ k q. unfold served in let z : _≡_ {A = ℕ} 0 1 = cc in omega arith) e
-step-first box (sighting m uid mask) n e =
-    unless-first (first (sightingRefusals m mask)) box (placed box m (sighted uid mask (deskAt box m))) n
-    (λ k q. unfold sighted in let z : _≡_ {A = ℕ} 0 1 = cc in omega arith) e
-step-first box tick n e = let z : _≡_ {A = ℕ} 0 1 = cc in absurd (omega arith)
+step-number box (frame f room) = unless-number (first (frameRefusals f room)) box _ (unfold served in refl)
+step-number box (sighting m uid mask) = unless-number (first (sightingRefusals m mask)) box _ (unfold sighted in refl)
+step-number box tick = unfold first in refl
 
-on-first : (s : List ℕ) (e : Event) (n : ℕ) → stepOn s e .answer ≡ refused n → first (testsOf s e) ≡ some n
+on-number : (s : List ℕ) (e : Event) → numberHeard (stepOn s e .answer) ≡ first (testsOf s e)
 unfolding stepOn first testsOf testRefusals
-on-first s e n = go (sound s)
+on-number s e = go (sound s)
   where
-    go : (b : Bool) → cond b (step (view s) e) record { answer = refused 1; box = view s } .answer ≡ refused n → cond (not b) (some 1) (first (refusalsOf e)) ≡ some n
-    go true q = step-first (view s) e n q
-    go false q = cc
+    go : (b : Bool) → numberHeard (cond b (step (view s) e) record { answer = refused 1; box = view s } .answer) ≡ cond (not b) (some 1) (first (refusalsOf e))
+    go true = step-number (view s) e
+    go false = refl
+
+module _ (box : Box) (s out : List ℕ) (a : Answer) (s′ out′ : List ℕ) where
+  abbrev here : Answer → Option ℕ
+  here x = numberHeard (heard x out′)
+
+  ended-number : (t : RuleAnswer) → Ended t box s out a s′ out′ → numberHeard (heard a out′) ≡ numberHeard t
+  ended-number (refused n) p = ap here (p .0 .answer-is) ∙ ap some (p .0 .number-is)
+  ended-number (reply t) p = ap here (p .0)
+  ended-number (seen w) p = ap here (p .0)
+  ended-number ok p = ap here (p .0)
+
+  -- a refused call writes nothing
+  ended-kept : (t : RuleAnswer) (r : Refusal) → a ≡ Refused r → Ended t box s out a s′ out′ → (s′ ≡ s) × (out′ ≡ out)
+  ended-kept (refused n) r e p = p .1
+  ended-kept (reply t) r e p = let z : _≡_ {A = ℕ} 0 1 = cc in absurd (omega arith)
+  ended-kept (seen w) r e p = let z : _≡_ {A = ℕ} 0 1 = cc in absurd (omega arith)
+  ended-kept ok r e p = let z : _≡_ {A = ℕ} 0 1 = cc in absurd (omega arith)
 
 module _ (e : Event) (s out : List ℕ) (a : Answer) (s′ out′ : List ℕ) (c : Called e s out a s′ out′) where
+  pub first-heard : numberHeard (heard a out′) ≡ first (testsOf s e)
+  first-heard = ended-number (stepOn s e .box) s out a s′ out′ (stepOn s e .answer) (c .ended) ∙ on-number s e
+
   pub refused-first : (r : Refusal) → a ≡ Refused r → (first (testsOf s e) ≡ some (numberOf r)) × (s′ ≡ s) × (out′ ≡ out)
   refused-first r q =
-      let x = ended-refused (stepOn s e .box) s out a s′ out′ r q (stepOn s e .answer) (c .ended) in
-      (on-first s e (numberOf r) (x .0), x .1, x .2)
+      let kept = ended-kept (stepOn s e .box) s out a s′ out′ (stepOn s e .answer) r q (c .ended) in
+      (sym first-heard ∙ ap (λ (x : Answer). numberHeard (heard x out′)) q, kept .0, kept .1)
 
 -- ---- every other answer is of the event's kind
 

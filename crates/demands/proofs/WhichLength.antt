@@ -4,7 +4,7 @@ use Prim.Native.Nat.{ℕ}
 use mathlib.Core.Path.{_≡_, refl, ap, _∙_}
 use mathlib.Core.Bool.{Bool, true, false, cond, not, _&&_}
 use mathlib.Core.List.{List, [], _∷_, _++_}
-use mathlib.Core.Option.{Option, none, some}
+use mathlib.Core.Option.{none, some}
 use lib.Dec.{leb}
 use native.Mathlib.Decide.{decLt}
 use native.Mathlib.Omega.{arith}
@@ -17,15 +17,14 @@ use Rattle.frame.specs.Judged.{faults, partsOf}
 use Rattle.frame.specs.WhichLength.{whichOf, isOfLength, ofLength}
 use Rattle.frame.proofs.Finding.{number-found}
 use Rattle.frame.proofs.WhichLength.{which-fault}
-use Rattle.rules.specs.Box.{Box, frame, refused, reply, seen, ok, Answer as RuleAnswer, deskAt, request, served, placed, unlessRefused, noDesk, frameRefusals, step}
+use Rattle.rules.specs.Box.{frame, request, noDesk, frameRefusals}
 use Rattle.store.specs.Sound.{sound}
-use Rattle.store.specs.View.{view}
 use Rattle.events.specs.declared.Answer.{Answer}
-use Rattle.events.specs.Happened.{Ended}
-use Rattle.depot.specs.Called.{stepOn, Called}
+use Rattle.depot.specs.Called.{Called, testRefusals}
 use Rattle.requests.specs.declared.Request.{Request}
 use Rattle.reader.specs.Reader.{toldOf, answersTo, readerRefusals, readAs}
-use Rattle.demands.specs.Answers.{numberHeard}
+use Rattle.demands.specs.Answers.{heard, numberHeard, refusalsOf, testsOf}
+use Rattle.demands.proofs.Listed.{first-heard}
 
 -- other tests behind those of the length
 behind : (ts us : List (ℕ × Bool)) → ofLength (first us) ≡ none → ofLength (first (ts ++ us)) ≡ ofLength (first ts)
@@ -62,38 +61,15 @@ frame-tells f room =
           (behind (faults ToBox f) ((5, noDesk (request f .address)) ∷ []) (a-number 5 (noDesk (request f .address)) refl) ∙ which-fault ToBox f)
     ]
 
-abbrev numberGiven : RuleAnswer → Option ℕ
-numberGiven (refused n) = some n
-numberGiven (reply t) = none
-numberGiven (seen w) = none
-numberGiven ok = none
-
-step-number : (box : Box) (f : List ℕ) (room : ℕ) → numberGiven (step box (frame f room) .answer) ≡ first (frameRefusals f room)
-unfolding step placed served unlessRefused
-step-number box f room = go (first (frameRefusals f room))
+tests-tell : (s f : List ℕ) (room : ℕ) → ofLength (first (testsOf s (frame f room))) ≡ cond (sound s && leb replyRoom room) (whichOf ToBox f) none
+unfolding testsOf testRefusals refusalsOf first
+tests-tell s f room = go (sound s)
   where
-    go : (o : Option ℕ) → numberGiven (unlessRefused o box (placed box (request f .address) (served f (deskAt box (request f .address)))) .answer) ≡ o
-    go none = refl
-    go (some n) = refl
-
-on-number : (s f : List ℕ) (room : ℕ) → ofLength (numberGiven (stepOn s (frame f room) .answer)) ≡ cond (sound s && leb replyRoom room) (whichOf ToBox f) none
-unfolding stepOn
-on-number s f room = go (sound s)
-  where
-    go : (b : Bool) → ofLength (numberGiven (cond b (step (view s) (frame f room)) record { answer = refused 1; box = view s } .answer))
-        ≡ cond (b && leb replyRoom room) (whichOf ToBox f) none
-    go true = ap ofLength (step-number (view s) f room) ∙ frame-tells f room
+    go : (b : Bool) → ofLength (cond (not b) (some 1) (first (frameRefusals f room))) ≡ cond (b && leb replyRoom room) (whichOf ToBox f) none
+    go true = frame-tells f room
     go false = refl
-
-module _ (box : Box) (s out : List ℕ) (a : Answer) (s′ out′ : List ℕ) where
-  ended-number : (t : RuleAnswer) → Ended t box s out a s′ out′ → numberHeard a ≡ numberGiven t
-  ended-number (refused n) p = ap numberHeard (p .0 .answer-is) ∙ ap some (p .0 .number-is)
-  ended-number (reply t) p = ap numberHeard (p .0)
-  ended-number (seen w) p = ap numberHeard (p .0)
-  ended-number ok p = ap numberHeard (p .0)
 
 -- whatever the store and the room: with a sound one and enough of it the table's number, else 1 or 2
 pub box-tells : (f : List ℕ) (room : ℕ) (s out : List ℕ) (a : Answer) (s′ out′ : List ℕ) → Called (frame f room) s out a s′ out′
-    → ofLength (numberHeard a) ≡ cond (sound s && leb replyRoom room) (whichOf ToBox f) none
-box-tells f room s out a s′ out′ c =
-    ap ofLength (ended-number (stepOn s (frame f room) .box) s out a s′ out′ (stepOn s (frame f room) .answer) (c .ended)) ∙ on-number s f room
+    → ofLength (numberHeard (heard a out′)) ≡ cond (sound s && leb replyRoom room) (whichOf ToBox f) none
+box-tells f room s out a s′ out′ c = ap ofLength (first-heard (frame f room) s out a s′ out′ c) ∙ tests-tell s f room

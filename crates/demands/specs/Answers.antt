@@ -22,12 +22,12 @@ heard (Reply n) out = reply (take n out)
 heard (Sighted w) out = seen w
 heard Done out = ok
 
--- the paper's number of a refusal
-abbrev pub numberHeard : Answer → Option ℕ
-numberHeard (Refused r) = some (numberOf r)
-numberHeard (Reply n) = none
-numberHeard (Sighted w) = none
-numberHeard Done = none
+-- the number of a refusal
+abbrev pub numberHeard : RuleAnswer → Option ℕ
+numberHeard (refused n) = some n
+numberHeard (reply t) = none
+numberHeard (seen w) = none
+numberHeard ok = none
 
 -- ---- demand 1: the tests of each call, in their order, and what it answers where none of them is given
 

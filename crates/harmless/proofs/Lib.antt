@@ -1,3 +1,4 @@
 pub mod Lists
 pub mod Host
 pub mod Numbers
+pub mod WhichLength
