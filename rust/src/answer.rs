@@ -15,8 +15,8 @@ pub enum Refusal {
     /// A frame is shorter than its kind allows, 5 octets to the box and 6 to the reader, 7 and 8 after a first octet of 2: look at a
     /// loose plug, then at a driver that waits too short a time for the next octet.
     TooShort = 31,
-    /// A frame is longer than its kind allows, 255 octets, 842 after a first octet of 2: look at a driver that joins frames, or that
-    /// loses the first octet of a long one.
+    /// A frame is longer than its kind allows, 255 octets, [`REPLY_SIZE`](crate::REPLY_SIZE) after a first octet of 2: look at a driver
+    /// that joins frames, or that loses the first octet of a long one.
     TooLong = 32,
     /// The length field says another number of octets than were received: look at a wrong driver, or, where it comes now and then
     /// only, at octets that are lost or added on the way.

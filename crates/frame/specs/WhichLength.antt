@@ -15,7 +15,8 @@ pub data Cell : Type 0 where
   gives : ℕ → Cell
   field : Cell
 
--- the columns of a frame to the box: no octets, 1 to 4, 5 and 6, 7 to 255, 256 to the longest, above it. A reply is an octet longer
+-- the columns of a frame to the box: no octets, 1 to 4, 5 and 6, 7 to 255, 256 to the longest, above it. A reply's shortest lengths are an
+-- octet more
 unfoldable pub columnOf : Way → ℕ → ℕ
 columnOf w n =
     cond (leb n 0) 0
@@ -24,7 +25,7 @@ columnOf w n =
     (cond (leb n 255) 3
     (cond (leb n (shapeOf Advanced .longest)) 4 5))))
 
--- the rows: a first octet of 2; another below 5, which no standard frame is short enough to have; any other
+-- the rows: a first octet of 2; another below 5, of a reply below 6, which is never the length of a standard frame; any other
 abbrev pub advancedRow : List Cell
 advancedRow = gives 3 ∷ gives 31 ∷ gives 31 ∷ field ∷ field ∷ gives 32 ∷ []
 

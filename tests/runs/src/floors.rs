@@ -41,7 +41,7 @@ const FLOORS: [(u64, &str, &[&str]); 50] = [
     (5000, "read", &["status 0x11", "status 0x13", "status 0x14", "status 0x93", "status 0x94"]),
     (RARE, "read", &["status 0x15", "status 0x92", "refused 33, no kind", "refused 33, no command", "refused 4, no kind", "refused 4, no command"]),
     (RARE, "make", &["written, a password into RAM", "refused 7, a password into RAM"]),
-    (RARE, "read", &["status 0x13, a password into RAM", "status 0x16, a password into RAM"]),
+    (100000, "read", &["status 0x13, a password into RAM", "status 0x16, a password into RAM"]),
     (RARE, "read", &["refused 8, a password into RAM"]),
     (500, "line", &["refused 6", "written"]),
     (500, "lines", &["refused 6"]),

@@ -2,6 +2,7 @@
 
 use crate::frame::{reseal, Kind, LONGEST};
 use crate::random::Random;
+use std::collections::BTreeSet;
 
 /// To the box, or from it: the shortest frame of each kind.
 pub type Shortest = fn(Kind) -> usize;
@@ -55,51 +56,51 @@ fn named(n: usize, row: &str, off: Option<usize>) -> String {
     format!("{n} octets, first {row}, field {field}")
 }
 
-/// Every cell at its edges.
-pub fn cells(shortest: Shortest) -> Vec<String> {
-    let mut names = vec!["no octets".into()];
-    let least = shortest(Kind::Standard);
-    for n in edges(shortest).into_iter().skip(1) {
-        let fields: &[Option<usize>] = if n < 3 { &[None] } else { &[Some(0), Some(1), Some(2)] };
-        names.extend(fields.iter().map(|&off| named(n, ADVANCED, off)));
-        let never: Vec<u8> = (0..least as u8).filter(|&first| first != 2).collect();
-        let standard: Vec<u8> = (least as u8..=255).collect();
-        for (row, firsts) in [(NEVER, never), (STANDARD, standard)] {
-            let mut offs: Vec<usize> = firsts.into_iter().map(|first| usize::from(first).abs_diff(n).min(2)).collect();
-            offs.sort_unstable();
-            offs.dedup();
-            names.extend(offs.into_iter().map(|off| named(n, row, Some(off))));
-        }
+/// Every cell at its edges: of each first octet, and after a 2 of ALENGTHs that are right, off by one, and 0.
+pub fn cells(shortest: Shortest) -> BTreeSet<String> {
+    let lengths = |n: usize| [n, n + 1, 0].map(|said| [2, (said >> 8) as u8, said as u8]);
+    let heads = |n: usize| (0..=255).map(|first| [first, 0, 0]).chain(lengths(n));
+    let mut names = BTreeSet::new();
+    for n in edges(shortest) {
+        names.extend(heads(n).filter_map(|head| cell(&begun(vec![0; n], &head), shortest)));
     }
-    names.sort_unstable();
-    names.dedup();
     names
+}
+
+/// The octets, with a head in place of the first of them.
+fn begun(mut octets: Vec<u8>, head: &[u8]) -> Vec<u8> {
+    octets.iter_mut().zip(head).for_each(|(octet, head)| *octet = *head);
+    octets
 }
 
 /// A frame at an edge, whose CRC is right; its length field is right, off by one, or anything.
 pub fn at_an_edge(random: &Random, shortest: Shortest) -> Vec<u8> {
     let n = random.pick(&edges(shortest));
-    let mut octets = random.octets(n);
     let said = match random.below(4) {
         0 => n,
         1 => n + 1,
         2 => n.saturating_sub(1),
         _ => random.below(1024),
     };
-    fill(random, &mut octets, said, shortest);
-    octets
+    let never = random.below(shortest(Kind::Standard)) as u8;
+    let octets = begun(random.octets(n), &any_head(random, never, said));
+    sealed(octets)
 }
 
-fn fill(random: &Random, octets: &mut [u8], said: usize, shortest: Shortest) {
-    let never = random.below(shortest(Kind::Standard)) as u8;
-    let first = random.pick(&[2, never, said as u8]);
-    let head = [first, (said >> 8) as u8, said as u8];
-    let (field, kind) = (if first == 2 { 3 } else { 1 }, Kind::of(first));
-    octets.iter_mut().zip(head).take(field).for_each(|(octet, head)| *octet = head);
-    if let Some(address) = octets.get_mut(kind.head()) {
-        *address &= 0x0F;
+fn any_head(random: &Random, never: u8, said: usize) -> Vec<u8> {
+    match random.below(3) {
+        0 => vec![2, (said >> 8) as u8, said as u8],
+        1 => vec![never],
+        _ => vec![said as u8],
     }
-    if octets.len() > kind.head() + 2 {
-        reseal(octets);
+}
+
+/// With a desk's address more often than not, and the right CRC where there is room for it.
+fn sealed(mut octets: Vec<u8>) -> Vec<u8> {
+    let at = octets.first().map_or(0, |&first| Kind::of(first).head());
+    if octets.len() > at + 2 {
+        octets[at] &= 0x0F;
+        reseal(&mut octets);
     }
+    octets
 }
