@@ -168,8 +168,7 @@ uint64_t depot_test(const uint8_t *store, size_t store_len);
 
 /*
  * A frame arrives on the line, and the desk that it names answers.
- * Answers: DEPOT_WRITTEN, a reply of DEPOT_LENGTH (n) octets; refusals 1, 2, 3, 31, 32, 33, 4, 5, the
- * first that fits, in this order.
+ * Answers: DEPOT_WRITTEN, a reply of DEPOT_LENGTH (n) octets; refusals 1, 2, 3, 31, 32, 33, 4, 5, in this order the first that fits.
  * Afterwards: answered, the reply stands in out[0] to out[n - 1], the octets behind it are as before, and the store is sound
  * and holds what the command did; refused, store and output are as before.
  */
@@ -211,8 +210,9 @@ uint64_t depot_make(uint64_t kind, uint64_t desk, uint64_t control, uint64_t a, 
 /*
  * Reads the reply to a request, which is given by the same arguments as to depot_make.
  * Answers: DEPOT_READ: the status is DEPOT_STATUS, and the data are DEPOT_DATA_LENGTH octets from reply[DEPOT_START] on;
- * refusals 3, 31, 32, 33, 4, 8, the first that fits, in this order. 8 is given where kind, address or control byte differ, where no sound store answers
- * that request with that status and data length, where a record count does not fit the length, and to what is no request.
+ * refusals 3, 31, 32, 33, 4, 8, in this order the first that fits. 8 is given where kind, address or control byte differ, where no
+ * sound store answers that request with that status and data length, where a record count does not fit the length, and to what is no
+ * request.
  * Only reads.
  */
 uint64_t depot_read(uint64_t kind, uint64_t desk, uint64_t control, uint64_t a, uint64_t b, uint64_t c, const uint8_t *bytes, size_t bytes_len, const uint8_t *reply, size_t reply_len);

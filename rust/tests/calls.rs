@@ -89,6 +89,9 @@ fn frame_refuses() {
     box_refuses(&s[1..], REPLY_SIZE, Refusal::Unsound, |s, out| raw::frame(s, &RESET, out));
     box_refuses(&s, REPLY_SIZE - 1, Refusal::SmallBuffer, |s, out| raw::frame(s, &RESET, out));
     box_refuses(&s, REPLY_SIZE, Refusal::NoOctets, |s, out| raw::frame(s, &[], out));
+    box_refuses(&s, REPLY_SIZE, Refusal::TooShort, |s, out| raw::frame(s, &RESET[..4], out));
+    box_refuses(&s, REPLY_SIZE, Refusal::TooLong, |s, out| raw::frame(s, &[5; 256], out));
+    box_refuses(&s, REPLY_SIZE, Refusal::LengthDiffers, |s, out| raw::frame(s, &[6, 0, 0x64, 0xAC, 0x25], out));
     box_refuses(&s, REPLY_SIZE, Refusal::WrongCheck, |s, out| raw::frame(s, &[5, 0, 0x64, 0, 0], out));
     // A reset of desk 8, with the one check that is right: the maker would not make it.
     let checked = |n: u16| [5, 8, 0x64, n as u8, (n >> 8) as u8];
@@ -234,6 +237,8 @@ fn read_refuses_in_order() {
     for q in [q, none] {
         refused(raw::read(q, &[]), Refusal::NoOctets);
         refused(raw::read(q, &RESET), Refusal::TooShort);
+        refused(raw::read(q, &[6; 256]), Refusal::TooLong);
+        refused(raw::read(q, &[7, 0, 0x64, 0, 0, 0]), Refusal::LengthDiffers);
         refused(raw::read(q, &[6, 0, 0x64, 0, 0, 0]), Refusal::WrongCheck);
     }
     let others = [none, Asked { kind: 1, ..q }, Asked { kind: 2, ..q }, Asked { desk: 1, ..q }, Asked { control: 0x63, ..q }, Asked { control: 0x81, ..q }, Asked { control: 0x164, ..q }];

@@ -2,7 +2,7 @@
 use depot::Refusal::{LengthDiffers, NoOctets, TooLong, TooShort, WrongCheck};
 use depot::{Ask, Desk, Kind, Refusal, Request, Store, REPLY_SIZE};
 
-const LONGEST: usize = 842;
+const LONGEST: usize = REPLY_SIZE;
 
 /// What box and reader say of these octets; nothing where neither speaks of a length.
 fn told(octets: &[u8]) -> [Option<Refusal>; 2] {
@@ -23,8 +23,8 @@ fn of(n: usize, head: &[u8], to_box: impl Into<Option<Refusal>>, to_reader: impl
     assert_eq!(told(&octets(n, head)), [to_box.into(), to_reader.into()], "{n} octets from {head:?}");
 }
 
-fn advanced(n: usize, said: usize) -> [u8; 3] {
-    assert!(n > 2);
+/// A first octet of 2, and then ALENGTH.
+fn advanced(said: usize) -> [u8; 3] {
     [2, (said >> 8) as u8, said as u8]
 }
 
@@ -38,19 +38,19 @@ fn a_first_octet_of_2() {
     of(1, &[2], TooShort, TooShort);
     of(2, &[2, 0], TooShort, TooShort);
     for n in 3..7 {
-        of(n, &advanced(n, n), TooShort, TooShort);
+        of(n, &advanced(n), TooShort, TooShort);
     }
-    of(7, &advanced(7, 7), None, TooShort);
-    of(7, &advanced(7, 8), LengthDiffers, TooShort);
+    of(7, &advanced(7), None, TooShort);
+    of(7, &advanced(8), LengthDiffers, TooShort);
     for n in [8, 255, 256, LONGEST] {
-        of(n, &advanced(n, n), None, None);
+        of(n, &advanced(n), None, None);
         for said in [n - 1, n + 1, n ^ 256, 6, 0] {
-            of(n, &advanced(n, said), LengthDiffers, LengthDiffers);
+            of(n, &advanced(said), LengthDiffers, LengthDiffers);
         }
     }
-    of(LONGEST + 1, &advanced(LONGEST + 1, LONGEST + 1), TooLong, TooLong);
-    of(LONGEST + 1, &advanced(LONGEST + 1, 7), TooLong, TooLong);
-    of(65536 + 7, &advanced(7, 7), TooLong, TooLong);
+    of(LONGEST + 1, &advanced(LONGEST + 1), TooLong, TooLong);
+    of(LONGEST + 1, &advanced(7), TooLong, TooLong);
+    of(65536 + 7, &advanced(7), TooLong, TooLong);
 }
 
 #[test]

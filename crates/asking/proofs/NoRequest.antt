@@ -1,4 +1,4 @@
--- What is no request is refused: by the maker with 6, after 5, and by the reader with 8, after 3 and 4. Assumes nothing.
+-- What is no request is refused: by the maker with 6, after 5, and by the reader with 8, after the frame's faults. Assumes nothing.
 use Prim.Native.Nat.{ℕ, _≤_}
 use mathlib.Core.Path.{_≡_, refl}
 use mathlib.Core.Bool.{Bool, true, false, cond, and-false}

@@ -88,7 +88,7 @@ impl Asked {
         }
     }
 
-    /// The reader: 8 "to what is no request", after 3 and 4.
+    /// The reader: 8 "to what is no request", after what is wrong with the frame itself.
     pub fn read(&self, reply: &[u8]) -> u64 {
         match self.request() {
             Ok((kind, request)) => host::read(kind, self.desk, &request, reply).map_or_else(refused, |read| told(kind, &read)),

@@ -54,7 +54,7 @@ fn every_first_octet_and_every_number_of_octets() {
 #[test]
 fn every_number_of_octets_and_an_alength_beside_it() {
     for n in 1..LONGEST + 3 {
-        for said in [0, 2, 6, 7, n - 1, n, n + 1, n ^ 256, n.swap_bytes() >> 48, LONGEST, 65535] {
+        for said in [0, 2, 6, 7, n - 1, n, n + 1, n ^ 256, usize::from((n as u16).swap_bytes()), LONGEST, 65535] {
             let mut octets = vec![0x5A; n];
             let field = [2, (said >> 8) as u8, said as u8];
             octets.iter_mut().zip(field).for_each(|(octet, field)| *octet = field);

@@ -1,4 +1,4 @@
--- `events::frame` meets its contract: refusals 2 to 4 in rising number, then the desk. Assumes nothing.
+-- `events::frame` meets its contract: refusal 2, then the frame's faults, then the desk. Assumes nothing.
 use Prim.Native.Nat.{_≤_}
 use mathlib.Core.Path.{sym, ap, _∙_}
 use native.Mathlib.Omega.{arith}
