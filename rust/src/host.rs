@@ -109,7 +109,8 @@ impl Request {
 
     /// Reads the reply to the request: its status, and its data.
     ///
-    /// Refused, the first that fits: `NoOctets`, `TooShort`, `TooLong`, `LengthDiffers`; `WrongCheck`; `NotTheReply` where the frame is sound and no box answers this request so.
+    /// Refused, the first that fits: `NoOctets`, `TooShort`, `TooLong`, `LengthDiffers`, `WrongCheck`; `NotTheReply` where the frame is
+    /// sound and no box answers this request so.
     pub fn read<'a>(&self, reply: &'a [u8]) -> Result<Told<'a>, Refusal> {
         told(raw::read(self.asked(), reply), reply)
     }

@@ -109,7 +109,8 @@ impl<B: DerefMut<Target = [u8]>> Store<B> {
 
     /// A frame arrives, and the desk that it names answers: the reply, at the start of the output; the octets behind it stay.
     ///
-    /// Refused, the first that fits: `NoOctets`, `TooShort`, `TooLong`, `LengthDiffers`, `WrongCheck`, `NoDesk`. Store and output are then as before.
+    /// Refused, the first that fits: `NoOctets`, `TooShort`, `TooLong`, `LengthDiffers`, `WrongCheck`, `NoDesk`. Store and output are
+    /// then as before.
     ///
     /// ```
     /// let mut store = depot::Store::fresh();

@@ -70,9 +70,16 @@ fn any_other_first_octet() {
     }
 }
 
+/// The octets above have a wrong CRC too, which shows only where the length is right.
 #[test]
-fn the_length_before_the_crc() {
+fn a_right_length_leaves_the_crc() {
     let (mut store, mut out) = (Store::fresh(), [0; REPLY_SIZE]);
     assert_eq!(store.frame(&octets(5, &[5]), &mut out), Err(WrongCheck));
-    assert_eq!(LengthDiffers.to_string(), "refused 33: the frame's length field differs from the length received");
+}
+
+#[test]
+fn each_is_told_by_its_number() {
+    for (why, told) in [(NoOctets, "refused 3: "), (TooShort, "refused 31: "), (TooLong, "refused 32: "), (LengthDiffers, "refused 33: ")] {
+        assert!(why.to_string().starts_with(told));
+    }
 }

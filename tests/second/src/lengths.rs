@@ -95,7 +95,7 @@ fn any_head(random: &Random, never: u8, said: usize) -> Vec<u8> {
     }
 }
 
-/// With a desk's address more often than not, and the right CRC where there is room for it.
+/// With a desk's address every other time, and the right CRC, where there is room for both.
 fn sealed(mut octets: Vec<u8>) -> Vec<u8> {
     let at = octets.first().map_or(0, |&first| Kind::of(first).head());
     if octets.len() > at + 2 {
