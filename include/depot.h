@@ -102,8 +102,8 @@ extern "C" {
  *   32  Above 255 octets, or DEPOT_REPLY_SIZE after a first octet of 2. Look at a driver that joins frames, or that loses the first
  *       octet of a long one; then at the settings of the line, for noise without a pause.
  *   33  As many octets as the kind can have, but the frame says another number. Look at a wrong driver: one for other frames (0, 1, 3
- *       and 4 are never a length), that counts without the field or the CRC, or that puts the low octet first. Where it comes now and
- *       then only, octets are lost or added on the way: look at the plug and the settings of the line.
+ *       and 4 are never a length, nor is 5 in a reply), that counts without the field or the CRC, or that puts the low octet first.
+ *       Where it comes now and then only, octets are lost or added on the way: look at the plug and the settings of the line.
  */
 
 #define DEPOT_RECORDED 64

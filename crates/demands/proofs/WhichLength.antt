@@ -4,12 +4,13 @@ use Prim.Native.Nat.{ℕ}
 use mathlib.Core.Path.{_≡_, refl, ap, _∙_}
 use mathlib.Core.Bool.{Bool, true, false, cond, not, _&&_}
 use mathlib.Core.List.{List, [], _∷_, _++_}
-use mathlib.Core.Option.{none, some}
+use mathlib.Core.Option.{Option, none, some}
 use lib.Dec.{leb}
 use native.Mathlib.Decide.{decLt}
 use native.Mathlib.Omega.{arith}
 use borrow.Author.Tests.{lt-ltb, le-ltb, lt-leb, le-leb}
 use Rattle.octets.specs.Tests.{first}
+use Rattle.octets.proofs.Tests.{first-none, first-given}
 use Rattle.frame.specs.declared.Way.the-variants.{Request as ToBox, Reply as FromBox}
 use Rattle.frame.specs.Shape.{replyRoom}
 use Rattle.frame.specs.Finding.{numberIn}
@@ -28,13 +29,11 @@ use Rattle.demands.proofs.Listed.{first-heard}
 
 -- other tests behind those of the length
 behind : (ts us : List (ℕ × Bool)) → ofLength (first us) ≡ none → ofLength (first (ts ++ us)) ≡ ofLength (first ts)
-unfolding first
-behind [] us h = h
-behind (t ∷ ts) us h = go (t .1) (behind ts us h)
+behind ts us h = go (first ts) refl
   where
-    go : (b : Bool) → ofLength (first (ts ++ us)) ≡ ofLength (first ts) → ofLength (cond b (some (t .0)) (first (ts ++ us))) ≡ ofLength (cond b (some (t .0)) (first ts))
-    go true p = refl
-    go false p = p
+    go : (o : Option ℕ) → first ts ≡ o → ofLength (first (ts ++ us)) ≡ ofLength o
+    go none e = ap ofLength (first-none ts us e) ∙ h
+    go (some n) e = ap ofLength (first-given n ts us e)
 
 a-number : (k : ℕ) (b : Bool) → isOfLength k ≡ false → ofLength (first ((k, b) ∷ [])) ≡ none
 unfolding first
@@ -69,7 +68,7 @@ tests-tell s f room = go (sound s)
     go true = frame-tells f room
     go false = refl
 
--- whatever the store and the room: with a sound one and enough of it the table's number, else 1 or 2
+-- whatever the store and the room: with a sound one and enough of it the table's number; else none of the four, since 1 or 2 comes first
 pub box-tells : (f : List ℕ) (room : ℕ) (s out : List ℕ) (a : Answer) (s′ out′ : List ℕ) → Called (frame f room) s out a s′ out′
     → ofLength (numberHeard (heard a out′)) ≡ cond (sound s && leb replyRoom room) (whichOf ToBox f) none
 box-tells f room s out a s′ out′ c = ap ofLength (first-heard (frame f room) s out a s′ out′ c) ∙ tests-tell s f room

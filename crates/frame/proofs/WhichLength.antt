@@ -29,7 +29,7 @@ either : {P : Type 0} (b : Bool) → (b ≡ true → P) → (b ≡ false → P) 
 either true t f = t refl
 either false t f = f refl
 
-split : (P : ℕ → Type 0) (b : Bool) (x y : ℕ) → (b ≡ true → P x) → (b ≡ false → P y) → P (cond b x y)
+split : {A : Type 0} (P : A → Type 0) (b : Bool) (x y : A) → (b ≡ true → P x) → (b ≡ false → P y) → P (cond b x y)
 split P true x y t f = t refl
 split P false x y t f = f refl
 
@@ -60,13 +60,13 @@ module _ (w : Way) (f : List ℕ) where
   by-field : (k : Kind) (said : ℕ) → k ≡ kindOf f → lengthSaid k f ≡ said → overhead w k ≤ length f → length f ≤ shapeOf k .longest
       → told ≡ cond (eqb said (length f)) none (some 33)
   by-field k said is e enough within =
-      either (eqb said (length f))
+      split (λ (o : Option ℕ). told ≡ o) (eqb said (length f)) none (some 33)
       (λ t.
       let right = e ∙ eqb-true said (length f) t in
       either (eqb (checkSaid f) (crc (beforeCheck f)))
-      (λ c. rw t (so (sound w f k is enough within right (eqb-true _ _ c))))
-      (λ c. rw t (so (unchecked w f k is enough within right (eqb-false _ _ c)))))
-      (λ t. rw t (so (other w f k is enough within (λ r. eqb-false said (length f) t (sym e ∙ r)))))
+      (λ c. so (sound w f k is enough within right (eqb-true _ _ c)))
+      (λ c. so (unchecked w f k is enough within right (eqb-false _ _ c))))
+      (λ t. so (other w f k is enough within (λ r. eqb-false said (length f) t (sym e ∙ r))))
 
   -- ---- the rows
 
