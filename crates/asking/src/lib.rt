@@ -1,4 +1,6 @@
 // Numbers and octets, read as a request.
+#![tactic(auto)]
+
 ghost use Rattle.std.specs.Prelude.{◌≡◌, cond};
 ghost use Rattle.rules.specs.Control.{known};
 ghost use Rattle.asking.specs.Numbers.{kind_named, row_ask, table_ask, ask_with, no_ask, ask_of, whole, request_of};

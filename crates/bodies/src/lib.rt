@@ -1,4 +1,6 @@
 // The data of a request, written into a lent part of an output.
+#![tactic(auto)]
+
 ghost use Rattle.std.specs.Prelude.{◌≡◌, true, ◌+◌, ◌≤◌, ◌<◌, [], ◌∷◌, length};
 ghost use Rattle.octets.specs.Parts.{put};
 ghost use Rattle.octets.specs.Numbers.{octets};

@@ -1,5 +1,7 @@
 // What the calls of box and host side for C share: the number of an answer, in the range of its kind, of a sighting and of what was
 // written (of an answer of the box: depot_c; of the reader: host_c), and a number that C passes for an octet.
+#![tactic(auto)]
+
 ghost use Rattle.std.specs.Prelude.{◌≡◌, ◌<◌, ◌^◌};
 ghost use Rattle.codes.specs.Codes.{octet_of, seen_code, written_code};
 

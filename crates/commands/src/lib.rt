@@ -1,4 +1,6 @@
 // The commands that concern a desk's row alone: their own tests, and what they do. No store is known here.
+#![tactic(auto)]
+
 ghost use Rattle.std.specs.Prelude.{◌≡◌, true, ◌≤◌, length};
 ghost use Rattle.frame.specs.Shape.{reply_room};
 ghost use Rattle.rules.specs.declared.control.Command.{Command};

@@ -1,4 +1,6 @@
 // The command table: from a command to its terms, and from a control byte to those of its command.
+#![tactic(auto)]
+
 ghost use Rattle.std.specs.Prelude.{◌≡◌, false};
 ghost use Rattle.rules.specs.declared.control.Command.{Command};
 ghost use Rattle.rules.specs.declared.control.RowCommand.{RowCommand};

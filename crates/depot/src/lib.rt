@@ -1,5 +1,7 @@
 // The calls of the box: fresh, test, frame, sighting, tick. Any octets, any numbers, any store: each call ends with an answer,
 // and a refused call writes nothing.
+#![tactic(auto)]
+
 ghost use Rattle.std.specs.Prelude.{◌≡◌, [], length};
 ghost use Rattle.rules.specs.Box.{Event};
 ghost use Rattle.store.specs.Sound.{sound};

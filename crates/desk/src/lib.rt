@@ -1,4 +1,6 @@
 // The commands at one desk of a sound store: its answer to a control byte and data, in the order of tests: known, data length, login, the command's own rule.
+#![tactic(auto)]
+
 ghost use Rattle.std.specs.Prelude.{◌≡◌, true, not, ◌&&◌, ◌≤◌, ◌<◌, length};
 ghost use Rattle.frame.specs.Shape.{reply_room};
 ghost use Rattle.table.specs.Entries.{desks};

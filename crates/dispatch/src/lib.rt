@@ -1,4 +1,6 @@
 // A command at one desk of a sound store, once the tests before its own are passed: of the row, which is found and lent here, or of the table.
+#![tactic(auto)]
+
 ghost use Rattle.std.specs.Prelude.{◌≡◌, true, ◌≤◌, ◌<◌, length};
 ghost use Rattle.frame.specs.Shape.{reply_room};
 ghost use Rattle.table.specs.Entries.{desks};

@@ -1,5 +1,7 @@
 // What sightings, ticks and the commands of the table do to the row of one desk: `act`. Each function under it promises its octets by a
 // definition of specs/Row.
+#![tactic(auto)]
+
 ghost use Rattle.std.specs.Prelude.{◌≡◌, ◌≤◌, length, get_or};
 ghost use Rattle.locks.specs.Locks.{most_locks};
 ghost use Rattle.store.specs.Layout.{row_width};
@@ -85,7 +87,7 @@ fn restart_all(row: &mut [u8])
 }
 
 // What is done to a row by sightings, by ticks and by the commands that concern records too.
-#[derive(Drop)]
+#[derive(Clone, Copy)]
 pub enum Doing {
     // The overflow mark is set.
     Mark,

@@ -1,11 +1,13 @@
 // What each command that concerns a desk's row alone does, once its tests are passed. No store is known here.
+#![tactic(auto)]
+
 ghost use Rattle.std.specs.Prelude.{◌≡◌};
 
 pub mod blocks;
 pub mod clock;
 
 // A reply's status, and how many octets of data stand at their place in the output.
-#[derive(Drop)]
+#[derive(Clone, Copy)]
 pub struct Reply {
     pub status: u8,
     pub len: usize,

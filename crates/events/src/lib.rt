@@ -1,4 +1,6 @@
 // What an event does where the store is sound: a frame arrives, a tag is sighted, a tick passes. Refusals 2 to 6 are given here.
+#![tactic(auto)]
+
 ghost use Rattle.std.specs.Prelude.{◌≡◌, true, [], ◌≤◌, length};
 ghost use Rattle.frame.specs.declared.Way.{Way};
 ghost use Rattle.frame.specs.Shape.{reply_room};
@@ -13,7 +15,7 @@ use rules::Seen;
 use ruling::no_desk;
 
 // What a call answers.
-#[derive(Drop)]
+#[derive(Clone, Copy)]
 pub enum Answer {
     Refused(Refusal),
     // The reply's octets stand at the start of the output.

@@ -11,7 +11,7 @@ pub const HELD: usize = 2 * (Advanced::LONGEST + 1);
 
 // What is known of a line beside the octets that are held: how many those are, whether there were more than there is room for,
 // whether their number is odd, and whether one was no hex digit.
-#[derive(Drop)]
+#[derive(Clone, Copy)]
 pub struct Begun {
     pub held: usize,
     pub over: bool,

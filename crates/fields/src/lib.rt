@@ -1,4 +1,6 @@
 // What the data of a reply say, as numbers at the start of a lent output: so that nobody counts octets by hand.
+#![tactic(auto)]
+
 ghost use Rattle.std.specs.Prelude.{◌≡◌, [], ◌∷◌, ◌≤◌, length};
 ghost use Rattle.octets.specs.Parts.{put};
 ghost use Rattle.fields.specs.Fields.{timer_fields, sizes_fields, record_fields, BlockPut, TimerPut, SizesPut, RecordPut};

@@ -1,4 +1,6 @@
 // The fresh store, octet for octet: the defaults in both memories of each desk, no records, no locks.
+#![tactic(auto)]
+
 ghost use Rattle.std.specs.Prelude.{◌≡◌, ◌+◌, ◌≤◌, ◌<◌, length, replicate};
 ghost use Rattle.octets.specs.Parts.{put, joined};
 ghost use Rattle.table.specs.Entries.{desks};

@@ -1,5 +1,7 @@
 // The records that a sound store holds for a desk: counted, told, added and removed. What was done is said by the desk that the store
 // then says.
+#![tactic(auto)]
+
 ghost use Rattle.std.specs.Prelude.{◌≡◌, true, ◌+◌, ◌*◌, ◌≤◌, ◌<◌, length, take, drop};
 ghost use Rattle.octets.specs.Parts.{put};
 ghost use Rattle.table.specs.Entries.{record_width, desks, share};

@@ -1,4 +1,6 @@
 // What a sound store keeps for a desk in its row, which is read, or lent. What was done is said by the desk that the store then says.
+#![tactic(auto)]
+
 ghost use Rattle.std.specs.Prelude.{◌≡◌, true, ◌<◌};
 ghost use Rattle.locks.specs.Locks.{found_in};
 ghost use Rattle.table.specs.Entries.{desks};
@@ -12,7 +14,7 @@ use locks::Found;
 use timer::Timer;
 
 // The small numbers of a desk.
-#[derive(Drop)]
+#[derive(Clone, Copy)]
 pub struct Marks {
     pub logged_in: bool,
     pub overflow: bool,

@@ -1,4 +1,6 @@
 // Scan lines: the line of a record, as block 7 shapes it, in the rest of a lent output.
+#![tactic(auto)]
+
 ghost use Rattle.std.specs.Prelude.{◌≡◌, true, ◌*◌, ◌≤◌, length};
 ghost use Rattle.octets.specs.Parts.{put};
 ghost use Rattle.rules.specs.Config.{line_legal, block_size};

@@ -1,5 +1,7 @@
 // The locks of one desk as octets in the store: read and written, ticked, looked up, added, and tested.
 // Where no lock stands no array is laid out: on an empty store that was most of a call.
+#![tactic(auto)]
+
 ghost use Rattle.std.specs.Prelude.{◌≡◌, ◌+◌, ◌-◌, ◌*◌, ◌≤◌, length, take};
 ghost use Rattle.octets.specs.Parts.{part, put};
 ghost use Rattle.locks.specs.Locks.{most_locks, swept_of, found_in, added, locks_legal};

@@ -1,4 +1,6 @@
 // Whether a lock list is legal: the ticks of each lock, and no UID twice.
+#![tactic(auto)]
+
 ghost use Rattle.std.specs.Prelude.{◌≡◌, ◌≤◌, length, take};
 ghost use Rattle.octets.specs.Tests.{all_of};
 ghost use Rattle.locks.specs.Locks.{most_locks, lock_legal, distinct};

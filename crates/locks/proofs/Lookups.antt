@@ -12,6 +12,10 @@ use Rattle.locks.specs.declared.Found.{Found}
 use Rattle.locks.specs.declared.Found.TheVariants.{At, Nothing}
 use Rattle.locks.specs.Locks.{found_from, found_in, is_found, locked, left_of, ticks_left}
 
+-- what is read past the end of a list of locks
+abbrev pub none : Lock
+none = record { uid = 0; left = 0 }
+
 -- ---- a search, lock by lock
 
 pub lookup-cons : (k uid : ℕ) (l : Lock) (ls : List Lock) → found_from k uid (l ∷ ls) ≡ cond (eqb l.uid uid) (At k l.left) (found_from (k + 1) uid ls)

@@ -1,4 +1,6 @@
 // The maker: a request becomes a frame at the start of a lent output.
+#![tactic(auto)]
+
 ghost use Rattle.std.specs.Prelude.{◌≡◌, true, ◌<◌, length};
 ghost use Rattle.frame.specs.declared.Way.{Way};
 ghost use Rattle.frame.specs.Shape.{frame_with};

@@ -1,4 +1,6 @@
 // Octets of a buffer, read and written at a place. Each contract says what was read by `part`, and the whole buffer at exit by `put`.
+#![tactic(auto)]
+
 ghost use Rattle.std.specs.Prelude.{◌≡◌, ◌⊎◌, ◌+◌, ◌≤◌, min, length, replicate};
 ghost use Rattle.octets.specs.Parts.{part, put, alike};
 ghost use Rattle.octets.specs.Numbers.{number, octets, u16_at};

@@ -16,10 +16,6 @@ pub chosen : (m : Mark) (char : ℕ) (user : List ℕ) (k : ℕ) → count_trail
 unfolding mark_of
 chosen m char user k e h = rw e h
 
--- a number that is none of four in a row lies above them
-pub no-four : (k n : ℕ) → k ≤ n → (n ≡ k → ⊥) → (n ≡ k + 1 → ⊥) → (n ≡ k + 2 → ⊥) → (n ≡ k + 3 → ⊥) → k + 4 ≤ n
-no-four k n h a b c d = omega arith
-
 -- what is held lies within the three octets
 pub held-inside : (m : Mark) (t : List ℕ) → Holds m t → m.len ≤ length m.octets
 unfolding part

@@ -1,4 +1,6 @@
 // The pieces of a scan line: heading, octets as hex or raw, separator, end. Each is written at a place, and the next place is returned.
+#![tactic(auto)]
+
 ghost use Rattle.std.specs.Prelude.{◌≡◌, true, [], ◌∷◌, ◌+◌, ◌*◌, ◌/◌, ◌%◌, ◌≤◌, ◌<◌, max, length, get_or};
 ghost use Rattle.octets.specs.Parts.{part, put};
 ghost use Rattle.rules.specs.Config.{line_legal, block_size};
@@ -8,7 +10,7 @@ ghost use Rattle.pieces.specs.Pieces.{Holds, shown_width, width_of};
 const TAB: u8 = 0x09;
 
 // The octets of a separator or an end: the first len.
-#[derive(Drop)]
+#[derive(Clone, Copy)]
 pub struct Mark {
     pub octets: [u8; 3],
     pub len: usize,

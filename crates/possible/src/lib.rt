@@ -1,4 +1,6 @@
 // What status and data length a box can answer to a request.
+#![tactic(auto)]
+
 ghost use Rattle.std.specs.Prelude.{◌≡◌, true, cond, ◌&&◌, ◌||◌, ◌<◌, min, eqb};
 ghost use Rattle.table.specs.Entries.{share};
 ghost use Rattle.rules.specs.Config.{block_of, block_size, password_in_ram};

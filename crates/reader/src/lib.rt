@@ -1,4 +1,6 @@
 // The reader: the octets of a reply, judged by the request that they should answer.
+#![tactic(auto)]
+
 ghost use Rattle.std.specs.Prelude.{◌≡◌};
 ghost use Rattle.frame.specs.declared.Way.{Way};
 ghost use Rattle.frame.specs.Shape.{frame_with};
@@ -12,14 +14,14 @@ use possible::is_possible;
 use requests::{Request, control_of};
 
 // A reply's status, and where its data lie.
-#[derive(Drop)]
+#[derive(Clone, Copy)]
 pub struct Told {
     pub status: u8,
     pub start: usize,
     pub len: usize,
 }
 
-#[derive(Drop)]
+#[derive(Clone, Copy)]
 pub enum Reading {
     Sound(Told),
     Refused(Refusal),

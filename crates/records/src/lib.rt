@@ -1,4 +1,6 @@
 // The commands that tell of a desk's records: 0x22 sends the oldest, 0x31 the numbers of its table.
+#![tactic(auto)]
+
 ghost use Rattle.std.specs.Prelude.{◌≡◌, true, Bool, cond, ◌≤◌, ◌<◌, length, ltb};
 ghost use Rattle.frame.specs.Shape.{reply_room};
 ghost use Rattle.table.specs.Entries.{desks};

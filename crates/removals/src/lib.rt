@@ -1,4 +1,6 @@
 // The commands that take a desk's records away: 0x32 those last sent, 0x33 all, and 0x64, which restarts the desk too.
+#![tactic(auto)]
+
 ghost use Rattle.std.specs.Prelude.{◌≡◌, true, ◌<◌};
 ghost use Rattle.table.specs.Entries.{desks};
 ghost use Rattle.rules.specs.declared.control.TableCommand.{TableCommand};

@@ -1,4 +1,6 @@
 // A desk's answer to a well-formed frame, sealed as a reply at the start of the output.
+#![tactic(auto)]
+
 ghost use Rattle.std.specs.Prelude.{◌≡◌, true, ◌≤◌, ◌<◌, length};
 ghost use Rattle.frame.specs.declared.Way.{Way};
 ghost use Rattle.frame.specs.Shape.{reply_room};

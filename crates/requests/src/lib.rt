@@ -1,4 +1,6 @@
 // What a host asks of a desk.
+#![tactic(auto)]
+
 ghost use Rattle.std.specs.Prelude.{◌≡◌};
 ghost use Rattle.rules.specs.Control.{terms_of};
 ghost use Rattle.requests.specs.Request.{command_of, control_of, needs_login};
@@ -10,7 +12,7 @@ use rules::control::{Command, RowCommand, TableCommand, Terms};
 pub mod range;
 
 // What is asked, in the paper's order. A number is wider than its field.
-#[derive(Drop)]
+#[derive(Clone, Copy)]
 pub enum Ask {
     Baud(u64),
     Reset,
@@ -30,7 +32,7 @@ pub enum Ask {
     ClearRecords,
 }
 
-#[derive(Drop)]
+#[derive(Clone, Copy)]
 pub struct Request {
     pub kind: Kind,
     pub desk: u64,

@@ -1,5 +1,7 @@
 // What is done to the login, the timer, the locks and the memories of a desk's row: each function promises its octets by a definition of
 // specs/Row.
+#![tactic(auto)]
+
 ghost use Rattle.std.specs.Prelude.{◌≡◌, cond, ◌≤◌, ◌<◌, length, get_or};
 ghost use Rattle.locks.specs.Locks.{most_locks};
 ghost use Rattle.store.specs.Layout.{row_width};

@@ -1,7 +1,7 @@
 // The commands, and what the paper's table lists for each.
 
 // The commands that concern what a desk's row keeps, and nothing else.
-#[derive(Drop)]
+#[derive(Clone, Copy)]
 pub enum RowCommand {
     Baud,
     Reset,
@@ -15,7 +15,7 @@ pub enum RowCommand {
 }
 
 // Those that concern its records too, which stand in the table that all desks share.
-#[derive(Drop)]
+#[derive(Clone, Copy)]
 pub enum TableCommand {
     SystemReset,
     ReadRecords,
@@ -24,14 +24,14 @@ pub enum TableCommand {
     ClearRecords,
 }
 
-#[derive(Drop)]
+#[derive(Clone, Copy)]
 pub enum Command {
     OnRow(RowCommand),
     OnTable(TableCommand),
 }
 
 // What the paper's table lists for a command: control byte, data length, whether the desk must be logged in.
-#[derive(Drop)]
+#[derive(Clone, Copy)]
 pub struct Terms {
     pub control: u8,
     pub size: usize,
@@ -39,7 +39,7 @@ pub struct Terms {
     pub command: Command,
 }
 
-#[derive(Drop)]
+#[derive(Clone, Copy)]
 pub enum Known {
     Listed(Terms),
     Unknown,

@@ -1,5 +1,7 @@
 // The rules that box and host side both compute: CFG-ADR's bits, what block 7 may hold, which numbers are desks, and how many records a
 // reply has room for.
+#![tactic(auto)]
+
 ghost use Rattle.std.specs.Prelude.{◌≡◌, ◌≤◌};
 ghost use Rattle.table.specs.Entries.{share};
 ghost use Rattle.rules.specs.Config.{use_legal, char_legal, len_legal, shape_legal};

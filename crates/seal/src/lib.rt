@@ -1,4 +1,6 @@
 // How a frame is made in a lent buffer, around the data that stand there.
+#![tactic(auto)]
+
 ghost use Rattle.std.specs.Prelude.{◌≡◌, true, ◌≤◌, ◌+◌, length};
 ghost use Rattle.octets.specs.Parts.{part, put};
 ghost use Rattle.frame.specs.declared.Kind.{Kind};
@@ -10,7 +12,7 @@ ghost use Rattle.seal.specs.Buffer.{fits_in, sealed_as, data_in, request_in, rep
 use frame::{Advanced, Kind, Way};
 
 // What making a frame in a buffer answers: how many octets it has, or that none was made.
-#[derive(Drop)]
+#[derive(Clone, Copy)]
 pub enum Sealed {
     Octets(usize),
     Not,

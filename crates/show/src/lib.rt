@@ -19,7 +19,7 @@ use rules::Seen;
 use seal::Sealed;
 
 // What a step of a script comes to.
-#[derive(Drop)]
+#[derive(Clone, Copy)]
 pub enum Said {
     Answer(Answer),
     Count(u64),

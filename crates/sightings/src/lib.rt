@@ -1,4 +1,6 @@
 // A sighting at a desk, and a tick of all desks.
+#![tactic(auto)]
+
 ghost use Rattle.std.specs.Prelude.{◌≡◌, true, false, ◌<◌};
 ghost use Rattle.locks.specs.Locks.{locked};
 ghost use Rattle.table.specs.Entries.{desks};

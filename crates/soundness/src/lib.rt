@@ -1,4 +1,6 @@
 // Whether a store is sound: the header first, then what its areas hold. Areas and rows are lent and never copied.
+#![tactic(auto)]
+
 ghost use Rattle.std.specs.Prelude.{◌≡◌, true, not, ◌&&◌, ◌||◌, [], ◌+◌, ◌≤◌, ◌<◌, length, get_or, eqb};
 ghost use Rattle.octets.specs.Parts.{part};
 ghost use Rattle.octets.specs.Numbers.{number};

@@ -7,7 +7,7 @@ use mathlib.Core.List.{List}
 use native.Mathlib.Omega.{arith}
 use lib.Dec.{lit<}
 use lib.ListN.{length, get_or}
-use Rattle.octets.specs.Parts.{part, put}
+use Rattle.octets.specs.Parts.{part}
 use Rattle.octets.specs.Numbers.{octets, u16_at}
 use Rattle.octets.proofs.Puts.{part-put-away, apart-within, octet-away}
 use Rattle.octets.proofs.Numbers.{octets-length, u16_at-part}

@@ -1,4 +1,6 @@
 // The store: where things lie in it. Offsets are read and obeyed.
+#![tactic(auto)]
+
 ghost use Rattle.std.specs.Prelude.{◌≡◌, ◌≤◌, ◌<◌, length};
 ghost use Rattle.table.specs.Entries.{desks};
 ghost use Rattle.store.specs.Layout.{store_size, area_count, header_size, size_of, header, start_of, used_of, row_at};

@@ -7,7 +7,7 @@ use feeding::{Begun, feed, start};
 use readoff::answer;
 
 // The line that is begun, how many octets of the part are taken, and how many of the output are written.
-#[derive(Drop)]
+#[derive(Clone, Copy)]
 pub struct Progress {
     pub line: Begun,
     pub taken: usize,

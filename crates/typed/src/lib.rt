@@ -1,4 +1,6 @@
 // What the data of a reply say, for those who want it typed. Data that a reply to that command does not carry are refused.
+#![tactic(auto)]
+
 ghost use Rattle.std.specs.Prelude.{◌≡◌};
 ghost use Rattle.typed.specs.Typed.{BlockSaid, timer_said, timer_told, sizes_said, sizes_told, read_data, count_said, count_told, record_said, record_told};
 
@@ -9,54 +11,54 @@ use table::{RECORD, SHARE};
 use timer::Timer;
 
 // Whether there is what was looked for.
-#[derive(Drop)]
+#[derive(Clone, Copy)]
 pub enum Whether {
     There,
     Refused(Refusal),
 }
 
 // The bytes of a block, where they are there; else zeros.
-#[derive(Drop)]
+#[derive(Clone, Copy)]
 pub struct Block {
     pub whether: Whether,
     pub bytes: [u8; BLOCK],
 }
 
-#[derive(Drop)]
+#[derive(Clone, Copy)]
 pub enum TimerTold {
     Timer(Timer),
     Refused(Refusal),
 }
 
 // TAB-SIZE, TAB-START, TAB-LEN.
-#[derive(Drop)]
+#[derive(Clone, Copy)]
 pub struct Sizes {
     pub size: u16,
     pub start: u16,
     pub len: u16,
 }
 
-#[derive(Drop)]
+#[derive(Clone, Copy)]
 pub enum SizesTold {
     Sizes(Sizes),
     Refused(Refusal),
 }
 
-#[derive(Drop)]
+#[derive(Clone, Copy)]
 pub enum CountTold {
     Records(usize),
     Refused(Refusal),
 }
 
 // A record.
-#[derive(Drop)]
+#[derive(Clone, Copy)]
 pub struct Sighting {
     pub uid: u64,
     pub timer: Timer,
     pub mask: u8,
 }
 
-#[derive(Drop)]
+#[derive(Clone, Copy)]
 pub enum RecordTold {
     Record(Sighting),
     Refused(Refusal),

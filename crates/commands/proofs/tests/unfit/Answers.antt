@@ -1,0 +1,13 @@
+-- `commands::tests::unfit` meets its contract: the rule of block 7, and of no other. Assumes nothing.
+use borrow.Author.Tests.{eq-eqb, ne_eqb}
+use lib.Seq.{get_or-drop}
+use Rattle.rules.specs.Config.{line_legal}
+use Rattle.commands.proofs.tests.unfit.Goals as goal
+
+pub returns-then-k-ne7 : goal.returns-then-k-ne7
+returns-then-k-ne7 c = rw (ne_eqb c.args.k 7 c.if-k-ne7.true)
+
+pub returns : goal.returns
+unfolding line_legal
+returns c =
+    simp (eq-eqb c.args.k 7 c.if-k-ne7.false, c.shape_legal.ensures, get_or-drop)

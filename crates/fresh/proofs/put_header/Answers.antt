@@ -1,0 +1,8 @@
+-- `fresh::put_header` meets its contract. Assumes nothing.
+use mathlib.Core.Path.{refl, ◌∙◌}
+use Rattle.fresh.proofs.FreshRows.{header_made}
+use Rattle.fresh.proofs.put_header.Goals as goal
+
+pub returns : goal.returns
+returns c =
+    c.put16-3.ensures ∙ rw (c.put16-2.ensures, c.put16.ensures) (header_made _ _ _ _ refl refl refl)
