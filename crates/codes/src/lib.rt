@@ -16,6 +16,7 @@ const IGNORED: u64 = 65536;
 pub const WRITTEN: u64 = 9223372036854775808;
 
 // A number that is to be one octet: 0, which is no mask and no command, for one that is not.
+#[tactic(auto, unfolding(crate::specs::Codes::octet_of))]
 pub fn octet_of(n: u64) -> u8
     ensures { result ≡ octet_of n }
 {

@@ -1,4 +1,6 @@
 // The host side's calls for C and Rust: numbers and lent octets go in, a number comes back. A refused call writes nothing.
+#![tactic(auto)]
+
 ghost use Rattle.std.specs.Prelude.{◌≡◌, ◌<◌, ◌^◌, length};
 ghost use Rattle.table.specs.Entries.{record_width};
 ghost use Rattle.rules.specs.Config.{block_size};
@@ -19,8 +21,7 @@ const TOLD: u64 = 4294967296;
 // ---- the host side
 
 // Makes a request.
-#[unsafe(no_mangle)]
-pub extern "C" fn depot_make(
+pub fn depot_make(
     kind: u64,
     desk: u64,
     control: u64,
@@ -51,8 +52,7 @@ fn read_code(a: Reading) -> u64
 }
 
 // Reads the reply to a request.
-#[unsafe(no_mangle)]
-pub extern "C" fn depot_read(
+pub fn depot_read(
     kind: u64,
     desk: u64,
     control: u64,
@@ -91,8 +91,7 @@ fn record_of(s: &[u8]) -> [u8; RECORD]
 }
 
 // Writes the line of one record.
-#[unsafe(no_mangle)]
-pub extern "C" fn depot_line(block: &[u8], sighted: &[u8], out: &mut [u8]) -> u64
+pub fn depot_line(block: &[u8], sighted: &[u8], out: &mut [u8]) -> u64
     ensures { LineAs block.now sighted.now out.old result out.new }
 {
     if sighted.len() != RECORD {
@@ -105,8 +104,7 @@ pub extern "C" fn depot_line(block: &[u8], sighted: &[u8], out: &mut [u8]) -> u6
 }
 
 // Writes a line for each record that the data of a 0x22 reply carry, all or none.
-#[unsafe(no_mangle)]
-pub extern "C" fn depot_lines(block: &[u8], sent: &[u8], out: &mut [u8]) -> u64
+pub fn depot_lines(block: &[u8], sent: &[u8], out: &mut [u8]) -> u64
     ensures { LinesAs block.now sent.now out.old result out.new }
 {
     if block.len() != BLOCK {
@@ -118,32 +116,28 @@ pub extern "C" fn depot_lines(block: &[u8], sent: &[u8], out: &mut [u8]) -> u64
 // ---- what the data of a reply say, typed
 
 // The bytes of a block, of a reply to 0x80.
-#[unsafe(no_mangle)]
-pub extern "C" fn depot_block(sent: &[u8], out: &mut [u8]) -> u64
+pub fn depot_block(sent: &[u8], out: &mut [u8]) -> u64
     ensures { BlockAs sent.now out.old result out.new }
 {
     written_code(fields::block(sent, out))
 }
 
 // Hour, minute and milliseconds, of a reply to 0x86.
-#[unsafe(no_mangle)]
-pub extern "C" fn depot_timer(sent: &[u8], out: &mut [u64]) -> u64
+pub fn depot_timer(sent: &[u8], out: &mut [u64]) -> u64
     ensures { TimerAs sent.now out.old result out.new }
 {
     written_code(fields::timer(sent, out))
 }
 
 // TAB-SIZE, TAB-START and TAB-LEN, of a reply to 0x31.
-#[unsafe(no_mangle)]
-pub extern "C" fn depot_sizes(sent: &[u8], out: &mut [u64]) -> u64
+pub fn depot_sizes(sent: &[u8], out: &mut [u64]) -> u64
     ensures { SizesAs sent.now out.old result out.new }
 {
     written_code(fields::sizes(sent, out))
 }
 
 // UID, hour, minute, milliseconds and antenna mask of record i, of a reply to 0x22.
-#[unsafe(no_mangle)]
-pub extern "C" fn depot_record(sent: &[u8], i: usize, out: &mut [u64]) -> u64
+pub fn depot_record(sent: &[u8], i: usize, out: &mut [u64]) -> u64
     ensures { RecordAs sent.now i out.old result out.new }
 {
     written_code(fields::record(sent, i, out))

@@ -62,6 +62,7 @@ fn status_may(wanted: usize, fit: usize, n: usize, status: u8) -> bool
 }
 
 // Whether 0x22 can answer so with records.
+#[tactic(auto, using(crate::proofs::Chances::no_room))]
 fn records_may(kind: Kind, k: u64, status: u8, len: usize) -> bool
     ensures { result ≡ records_may kind k status len }
 {

@@ -2,8 +2,7 @@
 use Prim.Native.Nat.{◌^◌}
 use lib.Dec.{lit<}
 use Rattle.rules.proofs.Counts.{records-bound}
-use Rattle.possible.proofs.Chances.{odd-length, no-records, too_many, no_room, by-status}
-use mathlib.Core.Path.{◌∙◌}
+use Rattle.possible.proofs.Chances.{odd-length, no-records, too_many, by-status}
 use native.Mathlib.Omega.{arith}
 use Rattle.possible.proofs.records_may.Goals as goal
 
@@ -23,12 +22,5 @@ pub returns-then-wanted-n : goal.returns-then-wanted-n
 returns-then-wanted-n c =
     too_many _ _ _ _ _ c.records_for-n.ensures c.if-len-n.false c.if-n-eq0.false (rw (← c.held_for-wanted.ensures) c.if-wanted-n.true)
 
-pub returns-then-fit-n : goal.returns-then-fit-n
-returns-then-fit-n c =
-    no_room _ _ _ _ _ c.records_for-n.ensures c.if-len-n.false c.if-n-eq0.false (rw (← c.held_for-wanted.ensures) c.if-wanted-n.false) (rw (← c.most_sent-fit.ensures.0) c.if-fit-n.true)
-
 pub returns : goal.returns
-returns c =
-    c.status_may.ensures
-    ∙ rw (c.held_for-wanted.ensures, c.most_sent-fit.ensures.0)
-    (by-status _ _ _ _ _ c.records_for-n.ensures c.if-len-n.false c.if-n-eq0.false (rw (← c.held_for-wanted.ensures) c.if-wanted-n.false) (rw (← c.most_sent-fit.ensures.0) c.if-fit-n.false))
+returns c = grind (arith, by-status)

@@ -16,13 +16,12 @@ new c =
     (c.record_of.ensures ∙ ap (λ (t : Timer). record_of c.args.uid t c.args.mask) c.timer_of-t.ensures)
 
 pub act-requires : goal.act-requires
-act-requires c =
-    (
-      c.requires.0,
-      c.requires.1,
-      mark-legal c.args.s.now c.requires.0 c.args.d c.requires.1 c.args.uid c.args.mask c.ranges.uid.fits c.ranges.mask.fits c.requires.2
-          (omega (arith, c.if-held.true, c.held.ensures.0)),
-    )
+act-requires c = (
+  c.requires.0,
+  c.requires.1,
+  mark-legal c.args.s.now c.requires.0 c.args.d c.requires.1 c.args.uid c.args.mask c.ranges.uid.fits c.ranges.mask.fits c.requires.2
+      (omega (arith, c.if-held.true, c.held.ensures.0)),
+)
 
 pub returns-then-held : goal.returns-then-held
 returns-then-held c =
