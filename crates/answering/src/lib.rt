@@ -1,4 +1,6 @@
 // What a line is answered: a frame that stands in digits, or a line that is no hex.
+#![tactic(auto)]
+
 ghost use Rattle.std.specs.Prelude.{◌≡◌, true, ◌≤◌, length};
 ghost use Rattle.digits.specs.Digits.{octets_of};
 ghost use Rattle.text.specs.Listing.{Line, is_sighting, sighting_of, other_line, longest_line};

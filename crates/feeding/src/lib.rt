@@ -1,4 +1,6 @@
 // The listing's lines: a line is fed octet by octet, however long it is.
+#![tactic(auto)]
+
 ghost use Rattle.std.specs.Prelude.{◌≡◌, not, ◌||◌};
 ghost use Rattle.digits.specs.Digits.{is_hex};
 ghost use Rattle.feeding.specs.Feeding.{Starts, Feeds};

@@ -1,4 +1,6 @@
 // The line that was fed octet by octet is read off and answered.
+#![tactic(auto)]
+
 ghost use Rattle.std.specs.Prelude.{◌≤◌, length};
 ghost use Rattle.text.specs.Listing.{longest_line};
 ghost use Rattle.readoff.specs.ReadOff.{ReadOff};

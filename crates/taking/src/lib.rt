@@ -1,5 +1,7 @@
 // The listing over lent parts of its input, in any grouping: each line that ends in a part is answered. The buffers are arrays by
 // their type, so that no test of room comes before the store's.
+#![tactic(auto)]
+
 ghost use Rattle.turning.specs.Turning.{lent};
 ghost use Rattle.taking.specs.Taking.{Took, TookPart, Finished};
 

@@ -1,4 +1,6 @@
 // The words of the listing: the marks by which a line is told, and what is printed for an answer.
+#![tactic(auto)]
+
 ghost use Rattle.std.specs.Prelude.{◌≡◌};
 ghost use Rattle.text.specs.Listing.{is_tick, is_sighting};
 

@@ -1,4 +1,6 @@
 // One octet of the listing's input: it goes on with a line, or is the LF that ends it; and a last line without LF.
+#![tactic(auto)]
+
 ghost use Rattle.std.specs.Prelude.{◌≡◌, ◌+◌, ◌≤◌, ◌<◌, length, get_or};
 ghost use Rattle.text.specs.Listing.{longest_line};
 ghost use Rattle.turning.specs.Turning.{lent, Takes, Ends};

@@ -1,12 +1,13 @@
 -- `locks::age` meets its contract. Assumes nothing.
+use native.Mathlib.Omega.{arith}
 use borrow.Author.Tests.{lt-ltb, le-ltb}
 use Rattle.locks.specs.Locks.{aged_of}
 use Rattle.locks.proofs.age.Goals as goal
 
 pub returns-then-l-gt1 : goal.returns-then-l-gt1
 unfolding aged_of
-returns-then-l-gt1 c = rw (lt-ltb 1 _ c.if-l-gt1.true)
+returns-then-l-gt1 c = rw (lt-ltb 1 c.args.l.left (omega arith))
 
 pub returns : goal.returns
 unfolding aged_of
-returns c = rw (le-ltb 1 _ c.if-l-gt1.false)
+returns c = rw (le-ltb 1 c.args.l.left (omega arith))
