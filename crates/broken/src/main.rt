@@ -1,6 +1,9 @@
 // Stores that break one rule of soundness each: every call refuses them with 1, and all octets are kept. `show` says how a
 // line of a script reads.
+#![tactic(auto)]
+
 use frame::Advanced;
+use std::io;
 
 // A sound store: desk 0 is logged in and holds 5 records and locks, desk 1 one.
 const MADE: [u8; 68] = *b"
@@ -61,70 +64,77 @@ full and sound: poke 01CD 01 01CE 40 01CF 3F
 ";
 
 // Says whether the octets of store and output are those that were noted.
-fn compare(store: &[u8], before: &[u8], out: &[u8], noted: &[u8]) {
+fn compare(
+    rt: &impl Print,
+    store: &[u8],
+    before: &[u8],
+    out: &[u8],
+    noted: &[u8],
+) -> io::Result<()> {
     if show::alike(store, before) && show::alike(out, noted) {
-        show::word(b"kept\n");
+        show::word(rt, b"kept\n")
     } else {
-        show::word(b"changed\n");
+        show::word(rt, b"changed\n")
     }
 }
 
-fn ask(line: &[u8], store: &mut [u8], out: &mut [u8]) {
+fn ask(rt: &impl Print, line: &[u8], store: &mut [u8], out: &mut [u8]) -> io::Result<()> {
     let s = show::act(line, store, out);
-    show::say(out, s);
-    show::word(b" ");
+    show::say(rt, out, s)?;
+    show::word(rt, b" ")
 }
 
 // A line: the name of the store, what the three calls say to it, and whether all octets are as before.
-fn probe(name: &[u8], store: &mut [u8], out: &mut [u8]) {
+fn probe(rt: &impl Print, name: &[u8], store: &mut [u8], out: &mut [u8]) -> io::Result<()> {
     let mut before = [0u8; store::SIZE + 1];
     let mut noted = [0u8; Advanced::LONGEST];
     show::place(&mut before, 0, store);
     show::place(&mut noted, 0, out);
-    show::name(name);
-    ask(b": standard 00 31", store, out);
-    ask(b": uid 00 01 0000000000002000", store, out);
-    ask(b": tick", store, out);
-    compare(store, &before, out, &noted);
+    show::name(rt, name)?;
+    ask(rt, b": standard 00 31", store, out)?;
+    ask(rt, b": uid 00 01 0000000000002000", store, out)?;
+    ask(rt, b": tick", store, out)?;
+    compare(rt, store, &before, out, &noted)
 }
 
-fn sizes(store: &[u8], out: &mut [u8]) {
+fn sizes(rt: &impl Print, store: &[u8], out: &mut [u8]) -> io::Result<()> {
     let mut long = [0u8; store::SIZE + 1];
     show::place(&mut long, 0, store);
-    probe(b"one octet more", &mut long, out);
-    probe(b"one octet less", &mut long[..store::SIZE - 1], out);
+    probe(rt, b"one octet more", &mut long, out)?;
+    probe(rt, b"one octet less", &mut long[..store::SIZE - 1], out)
 }
 
 // A copy of the store, with octets written.
-fn copy(line: &[u8], store: &[u8], out: &mut [u8]) {
+fn copy(rt: &impl Print, line: &[u8], store: &[u8], out: &mut [u8]) -> io::Result<()> {
     let mut copy = [0u8; store::SIZE];
     show::place(&mut copy, 0, store);
     show::act(line, &mut copy, out);
-    probe(line, &mut copy, out);
+    probe(rt, line, &mut copy, out)
 }
 
-fn step(line: &[u8], store: &mut [u8], out: &mut [u8]) {
+fn step(rt: &impl Print, line: &[u8], store: &mut [u8], out: &mut [u8]) -> io::Result<()> {
     if show::letter(line) == b'p' {
-        copy(line, store, out);
+        copy(rt, line, store, out)
     } else {
-        show::step(line, store, out);
+        show::step(rt, line, store, out)
     }
 }
 
-fn rules(script: &[u8], store: &mut [u8], out: &mut [u8]) {
+fn rules(rt: &impl Print, script: &[u8], store: &mut [u8], out: &mut [u8]) -> io::Result<()> {
     let mut at: usize = 0;
     while at < script.len() {
         let start = at + 1;
         let end = show::until(script, start, b'\n');
-        step(&script[start..end], store, out);
+        step(rt, &script[start..end], store, out)?;
         at = end;
     }
+    Ok(())
 }
 
-fn main() {
+fn main(rt: HostRuntime) -> io::Result<()> {
     let mut store = [0u8; store::SIZE];
     let mut out = [0x5Au8; Advanced::LONGEST];
-    show::play(&MADE, &mut store, &mut out);
-    sizes(&store, &mut out);
-    rules(&RULES, &mut store, &mut out);
+    show::play(&rt, &MADE, &mut store, &mut out)?;
+    sizes(&rt, &store, &mut out)?;
+    rules(&rt, &RULES, &mut store, &mut out)
 }

@@ -2,6 +2,7 @@
 use crate::read::{block, first, number, part, request, rest};
 use crate::tell;
 use rules::Written;
+use std::io;
 use table::RECORD;
 
 const MARK: u8 = 0x5A;
@@ -14,10 +15,11 @@ const TWO: [u8; 2 + 2 * RECORD] =
     *b"\x00\x02\xE0\x07\x00\x00\x01\x64\x5E\x37\x01\x02\x03\xE8\x01\xFE\xDC\xBA\x98\x76\x54\x32\x10\x17\x3B\xEA\x5F\xFF";
 
 // Reads a reply to a request: its octets, and then the request.
-pub fn hear(text: &[u8]) {
+pub fn hear(rt: &impl Print, text: &[u8]) -> io::Result<()> {
     let mut octets = [0u8; 64];
     let n = show::unhex(first(text), &mut octets);
-    tell::reply(request(rest(text, 1)), part(&octets, 0, n));
+    tell::reply(rt, request(rest(text, 1)), part(&octets, 0, n))?;
+    Ok(())
 }
 
 // Writes into what is lent.
@@ -30,23 +32,23 @@ fn fill(letter: u8, text: &[u8], out: &mut [u8]) -> Written {
 }
 
 // The octets written: lines as text, all else in hex.
-fn written(letter: u8, s: &[u8]) {
+fn written(rt: &impl Print, letter: u8, s: &[u8]) -> io::Result<()> {
     match letter {
-        b'w' | b'b' => tell::text(s),
-        _ => show::hex(s),
+        b'w' | b'b' => tell::text(rt, s),
+        _ => show::hex(rt, s),
     }
 }
 
 // Whether all octets but the first n hold the mark.
-fn kept(buf: &[u8], n: usize) {
+fn kept(rt: &impl Print, buf: &[u8], n: usize) -> io::Result<()> {
     let marks = [MARK; 64];
     if n > 64 {
-        return;
+        return Ok(());
     }
     if show::alike(part(&marks, n, 64 - n), part(buf, n, 64 - n)) {
-        show::word(b" kept");
+        show::word(rt, b" kept")
     } else {
-        show::word(b" changed");
+        show::word(rt, b" changed")
     }
 }
 
@@ -59,16 +61,16 @@ fn trial(letter: u8, text: &[u8], buf: &mut [u8], room: usize) -> Written {
 }
 
 // Lends a part of the buffer, and says what was written there and whether all else was kept.
-pub fn lend(letter: u8, text: &[u8]) {
+pub fn lend(rt: &impl Print, letter: u8, text: &[u8]) -> io::Result<()> {
     let mut buf = [MARK; 64];
     match trial(letter, rest(text, 1), &mut buf, number(text) as usize) {
         Written::Refused(r) => {
-            tell::refused(r);
-            kept(&buf, 0);
+            tell::refused(rt, r)?;
+            kept(rt, &buf, 0)
         }
         Written::Octets(n) => {
-            written(letter, part(&buf, 0, n));
-            kept(&buf, n);
+            written(rt, letter, part(&buf, 0, n))?;
+            kept(rt, &buf, n)
         }
     }
 }

@@ -9,8 +9,11 @@
 //     write ROOM BLOCK                  the line of a record is written in a buffer with that room
 //     dump ROOM BLOCK                   the same, shown in hex
 //     both ROOM BLOCK                   the lines of two records are written
-use libc::STDIN_FILENO;
+#![tactic(auto)]
+
 use read::{rest, told_of};
+use std::io;
+use std::io::Input;
 
 mod calls;
 mod edge;
@@ -18,12 +21,18 @@ mod read;
 mod tell;
 
 // Does what a step of the host side says.
-fn act(letter: u8, text: &[u8], store: &mut [u8], out: &mut [u8]) {
+fn act(
+    rt: &impl Print,
+    letter: u8,
+    text: &[u8],
+    store: &mut [u8],
+    out: &mut [u8],
+) -> io::Result<()> {
     match letter {
-        b'l' => calls::lines(rest(text, 2), store, out),
-        b'h' => edge::hear(rest(text, 2)),
-        b's' | b'a' => calls::call(rest(text, 1), store, out),
-        _ => edge::lend(letter, rest(text, 2)),
+        b'l' => calls::lines(rt, rest(text, 2), store, out),
+        b'h' => edge::hear(rt, rest(text, 2)),
+        b's' | b'a' => calls::call(rt, rest(text, 1), store, out),
+        _ => edge::lend(rt, letter, rest(text, 2)),
     }
 }
 
@@ -36,31 +45,35 @@ fn ours(letter: u8) -> bool {
 }
 
 // A step of a script.
-fn step(line: &[u8], store: &mut [u8], out: &mut [u8]) {
+fn step(rt: &impl Print, line: &[u8], store: &mut [u8], out: &mut [u8]) -> io::Result<()> {
     let letter = show::letter(line);
     if ours(letter) {
-        show::name(line);
-        act(letter, told_of(line), store, out);
-        show::word(b"\n");
+        show::name(rt, line)?;
+        act(rt, letter, told_of(line), store, out)?;
+        show::word(rt, b"\n")
     } else {
-        show::step(line, store, out);
+        show::step(rt, line, store, out)
     }
 }
 
 // All steps of a script.
-pub fn play(script: &[u8], store: &mut [u8], out: &mut [u8]) {
+pub fn play(rt: &impl Print, script: &[u8], store: &mut [u8], out: &mut [u8]) -> io::Result<()> {
     let mut at: usize = 0;
     while at < script.len() {
         let start = at + 1;
         let end = show::until(script, start, b'\n');
-        step(&script[start..end], store, out);
+        step(rt, &script[start..end], store, out)?;
         at = end;
     }
+    Ok(())
 }
 
 // All steps of the script that stands on standard input.
-pub fn play_input(store: &mut [u8], out: &mut [u8]) {
-    let mut script = io::large_buffer();
-    let n = io::read_full(STDIN_FILENO, &mut script);
-    play(&script[..n], store, out);
+pub fn play_input(
+    rt: &(impl Input + Print + Alloc),
+    store: &mut [u8],
+    out: &mut [u8],
+) -> io::Result<()> {
+    let script = show::input(rt)?;
+    play(rt, script.as_slice(), store, out)
 }

@@ -1,9 +1,12 @@
 // One list of events on two sound stores: one made fresh, and the same octets with the areas in another order. A line an event: what
 // the first answers, and whether the second answers the same, octet for octet. `show` says how a line of a script reads.
+#![tactic(auto)]
+
 use events::Answer;
 use frame::Advanced;
 use rules::Seen;
 use show::Said;
+use std::io;
 
 // A sound store: desk 0 is logged in and holds 20 records and locks, desk 1 one.
 const MADE: [u8; 68] = *b"
@@ -79,43 +82,64 @@ fn said(s: Said) -> usize {
 }
 
 // Whether two answers, and the octets of the outputs, are the same.
-fn verdict(a: Said, b: Said, out: &[u8], other_out: &[u8]) {
+fn verdict(rt: &impl Print, a: Said, b: Said, out: &[u8], other_out: &[u8]) -> io::Result<()> {
     if said(a) != said(b) {
-        show::word(b" other answer\n");
-        return;
+        return show::word(rt, b" other answer\n");
     }
     if show::alike(out, other_out) {
-        show::word(b" same\n");
+        show::word(rt, b" same\n")
     } else {
-        show::word(b" other octets\n");
+        show::word(rt, b" other octets\n")
     }
 }
 
 // A line: what the first store says to an event, and whether the second says the same.
-fn compare(line: &[u8], store: &mut [u8], out: &mut [u8], other: &mut [u8], other_out: &mut [u8]) {
+fn compare(
+    rt: &impl Print,
+    line: &[u8],
+    store: &mut [u8],
+    out: &mut [u8],
+    other: &mut [u8],
+    other_out: &mut [u8],
+) -> io::Result<()> {
     let a = show::act(line, store, out);
     let b = show::act(line, other, other_out);
-    show::say(out, a);
-    verdict(a, b, out, other_out);
+    show::say(rt, out, a)?;
+    verdict(rt, a, b, out, other_out)
 }
 
-fn events(script: &[u8], store: &mut [u8], out: &mut [u8], other: &mut [u8], other_out: &mut [u8]) {
+fn events(
+    rt: &impl Print,
+    script: &[u8],
+    store: &mut [u8],
+    out: &mut [u8],
+    other: &mut [u8],
+    other_out: &mut [u8],
+) -> io::Result<()> {
     let mut at: usize = 0;
     while at < script.len() {
         let start = at + 1;
         let end = show::until(script, start, b'\n');
-        compare(&script[start..end], store, out, other, other_out);
+        compare(rt, &script[start..end], store, out, other, other_out)?;
         at = end;
     }
+    Ok(())
 }
 
-fn main() {
+fn main(rt: HostRuntime) -> io::Result<()> {
     let mut store = [0u8; store::SIZE];
     let mut out = [0u8; Advanced::LONGEST];
     let mut other = [0u8; store::SIZE];
     let mut other_out = [0u8; Advanced::LONGEST];
-    show::play(&MADE, &mut store, &mut out);
+    show::play(&rt, &MADE, &mut store, &mut out)?;
     moved(&mut other, &store);
     show::place(&mut other_out, 0, &out);
-    events(&EVENTS, &mut store, &mut out, &mut other, &mut other_out);
+    events(
+        &rt,
+        &EVENTS,
+        &mut store,
+        &mut out,
+        &mut other,
+        &mut other_out,
+    )
 }

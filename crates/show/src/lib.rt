@@ -10,13 +10,16 @@
 //     many DESK N                   N sightings, of which those recorded are counted
 //     tick                          100 ms pass
 //     poke AT AT OCTET ..           octets of the store are written
+#![tactic(auto)]
+
 ghost use Rattle.std.specs.Prelude.{◌≤◌, length};
 
 use events::Answer;
 use frame::{Advanced, Kind, Standard};
-use libc::{STDIN_FILENO, STDOUT_FILENO};
 use rules::Seen;
 use seal::Sealed;
+use std::io;
+use std::io::{Input, Read};
 
 // What a step of a script comes to.
 #[derive(Clone, Copy)]
@@ -64,75 +67,74 @@ pub fn alike(a: &[u8], b: &[u8]) -> bool {
 
 // ---- printing
 
-pub fn word(text: &[u8]) {
-    io::write_all(STDOUT_FILENO, text);
+pub fn word(rt: &impl Print, text: &[u8]) -> io::Result<()> {
+    rt.write_all(text)
 }
 
-pub fn number(n: u64) {
-    io::print_decimal(STDOUT_FILENO, n);
+pub fn number(rt: &impl Print, n: u64) -> io::Result<()> {
+    rt.print(n)
 }
 
 // The last hex digit of a number.
-fn glyph(b: u8) {
+fn glyph(rt: &impl Print, b: u8) -> io::Result<()> {
     let d = b % 16;
     let c = if d < 10 { 48 + d } else { 55 + d };
-    word(&[c]);
+    word(rt, &[c])
 }
 
-pub fn hex(s: &[u8]) {
+pub fn hex(rt: &impl Print, s: &[u8]) -> io::Result<()> {
     let mut i: usize = 0;
     while i < s.len() {
         let b = s[i];
-        glyph(b / 16);
-        glyph(b);
+        glyph(rt, b / 16)?;
+        glyph(rt, b)?;
         i += 1;
     }
+    Ok(())
 }
 
 // The first n octets of the output; of more than 20, the first 20 and how many there are.
-fn reply(out: &[u8], n: usize) {
+fn reply(rt: &impl Print, out: &[u8], n: usize) -> io::Result<()> {
     if out.len() < n {
-        word(b"no reply");
-        return;
+        return word(rt, b"no reply");
     }
     if n <= 20 {
-        hex(&out[..n]);
-        return;
+        return hex(rt, &out[..n]);
     }
-    hex(&out[..20]);
-    word(b" of ");
-    number(n as u64);
+    hex(rt, &out[..20])?;
+    word(rt, b" of ")?;
+    number(rt, n as u64)
 }
 
-fn seen(s: Seen) {
+fn seen(rt: &impl Print, s: Seen) -> io::Result<()> {
     match s {
         Seen::Ignored(left) => {
-            word(b"ignored ");
-            number(left as u64);
+            word(rt, b"ignored ")?;
+            number(rt, left as u64)
         }
-        Seen::Lost => word(b"lost"),
-        Seen::Recorded => word(b"recorded"),
+        Seen::Lost => word(rt, b"lost"),
+        Seen::Recorded => word(rt, b"recorded"),
     }
 }
 
-fn answer(out: &[u8], a: Answer) {
+fn answer(rt: &impl Print, out: &[u8], a: Answer) -> io::Result<()> {
     match a {
         Answer::Refused(r) => {
-            word(b"refused ");
-            number(r.number() as u64);
+            word(rt, b"refused ")?;
+            number(rt, r.number() as u64)
         }
-        Answer::Reply(n) => reply(out, n),
-        Answer::Sighted(s) => seen(s),
-        Answer::Done => word(b"ok"),
+        Answer::Reply(n) => reply(rt, out, n),
+        Answer::Sighted(s) => seen(rt, s),
+        Answer::Done => word(rt, b"ok"),
     }
 }
 
 // What a step came to.
-pub fn say(out: &[u8], s: Said) {
+pub fn say(rt: &impl Print, out: &[u8], s: Said) -> io::Result<()> {
     match s {
-        Said::Answer(a) => answer(out, a),
-        Said::Count(n) => number(n),
-        Said::Nothing => word(b"?"),
+        Said::Answer(a) => answer(rt, out, a),
+        Said::Count(n) => number(rt, n),
+        Said::Nothing => word(rt, b"?"),
     }
 }
 
@@ -298,46 +300,57 @@ pub fn act(line: &[u8], store: &mut [u8], out: &mut [u8]) -> Said {
 }
 
 // Prints the name of a line.
-pub fn name(line: &[u8]) {
+pub fn name(rt: &impl Print, line: &[u8]) -> io::Result<()> {
     let at = until(line, 0, b':');
-    word(&line[..at]);
-    word(b" ");
+    word(rt, &line[..at])?;
+    word(rt, b" ")
 }
 
 // A line with what a step came to, where it has a name.
-fn tell(line: &[u8], out: &[u8], s: Said) {
+fn tell(rt: &impl Print, line: &[u8], out: &[u8], s: Said) -> io::Result<()> {
     let at = until(line, 0, b':');
     if at == 0 {
-        return;
+        return Ok(());
     }
     if at == line.len() {
-        return;
+        return Ok(());
     }
-    name(line);
-    say(out, s);
-    word(b"\n");
+    name(rt, line)?;
+    say(rt, out, s)?;
+    word(rt, b"\n")
 }
 
 // A step of a script.
-pub fn step(line: &[u8], store: &mut [u8], out: &mut [u8]) {
+pub fn step(rt: &impl Print, line: &[u8], store: &mut [u8], out: &mut [u8]) -> io::Result<()> {
     let s = act(line, store, out);
-    tell(line, out, s);
+    tell(rt, line, out, s)
 }
 
 // All steps of a script.
-pub fn play(script: &[u8], store: &mut [u8], out: &mut [u8]) {
+pub fn play(rt: &impl Print, script: &[u8], store: &mut [u8], out: &mut [u8]) -> io::Result<()> {
     let mut at: usize = 0;
     while at < script.len() {
         let start = at + 1;
         let end = until(script, start, b'\n');
-        step(&script[start..end], store, out);
+        step(rt, &script[start..end], store, out)?;
         at = end;
     }
+    Ok(())
+}
+
+// The script that stands on standard input, of which no more than 65536 octets are read.
+pub fn input<R: Input + Alloc>(rt: &R) -> io::Result<Vec<u8, R::A>> {
+    let mut script = Vec::new(rt.alloc());
+    rt.reader().take(65536).read_to_end(&mut script)?;
+    Ok(script)
 }
 
 // All steps of the script that stands on standard input.
-pub fn play_input(store: &mut [u8], out: &mut [u8]) {
-    let mut script = io::large_buffer();
-    let n = io::read_full(STDIN_FILENO, &mut script);
-    play(&script[..n], store, out);
+pub fn play_input(
+    rt: &(impl Input + Print + Alloc),
+    store: &mut [u8],
+    out: &mut [u8],
+) -> io::Result<()> {
+    let script = input(rt)?;
+    play(rt, script.as_slice(), store, out)
 }

@@ -19,7 +19,7 @@ fn list(octets: &[u8]) -> String {
 
 fn event_text(event: &Event, room: usize) -> String {
     match event {
-        Event::Frame(octets) if room == REPLY_BUFFER => format!("frame ({}) replyRoom", list(octets)),
+        Event::Frame(octets) if room == REPLY_BUFFER => format!("frame ({}) reply_room", list(octets)),
         Event::Frame(octets) => format!("frame ({}) {room}", list(octets)),
         Event::Sighting { desk, uid, mask } => format!("sighting {desk} 0x{:X} {mask}", u64::from_be_bytes(*uid)),
         Event::Tick => "tick".into(),
@@ -271,12 +271,12 @@ fn main() {
 
 const MODULE: &str = "\
 -- COUNT random events, and the answers of the second program, printed by tests/runs: the rules give the same. Assumes nothing.
-use mathlib.Core.Path.{_≡_, refl}
-use mathlib.Core.List.{List, [], _∷_}
-use Rattle·frame.specs.Shape.{replyRoom}
-use Rattle·rules.specs.declared.Seen.the-variants.{Ignored, Lost, Recorded}
-use Rattle·rules.specs.Box.{Event, frame, sighting, tick, Answer, refused, reply, seen, ok, freshBox, run}
-use Rattle·rules.proofs.Computed.{computed}
+use mathlib.Core.Path.{◌≡◌, refl}
+use mathlib.Core.List.{List, [], ◌∷◌}
+use Rattle.frame.specs.Shape.{reply_room}
+use Rattle.rules.specs.declared.Seen.TheVariants.{Ignored, Lost, Recorded}
+use Rattle.rules.specs.Box.{Event, frame, sighting, tick, Answer, refused, reply, seen, ok, fresh_box, run}
+use Rattle.rules.proofs.Computed.{computed}
 
 unfoldable pub events : List Event
 events =
@@ -286,7 +286,7 @@ unfoldable pub answers : List Answer
 answers =
 ANSWERS    []
 
-pub agree : run freshBox events ≡ answers
+pub agree : run fresh_box events ≡ answers
 unfolding computed events answers
 agree = refl
 ";
