@@ -10,7 +10,7 @@ fn main() {
         println!("cargo:rerun-if-changed={}", archive.display());
         if !archive.exists() {
             eprintln!("A part of the proved library is missing: target/staticlib/lib{name}.a, beside rust/.");
-            eprintln!("Build it with ./lib at the root of the repository (it runs `rt staticlib {name}`), and try again.");
+            eprintln!("Build it with ./lib at the root of the repository (it runs `rt lib` in crates/depot_exports and crates/host_exports), and try again.");
             std::process::exit(1);
         }
         println!("cargo:rustc-link-lib=static={name}");
