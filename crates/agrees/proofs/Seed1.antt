@@ -99,8 +99,8 @@ events =
     frame (2 ∷ 0 ∷ 7 ∷ 2 ∷ 49 ∷ 191 ∷ 185 ∷ []) reply_room ∷ frame (9 ∷ 1 ∷ 133 ∷ 1 ∷ 0 ∷ 233 ∷ 252 ∷ 69 ∷ 133 ∷ []) 0 ∷
     frame (9 ∷ 1 ∷ 133 ∷ 1 ∷ 0 ∷ 233 ∷ 252 ∷ 69 ∷ 133 ∷ []) 1000 ∷ frame (5 ∷ 1 ∷ 134 ∷ 104 ∷ 248 ∷ []) 1000 ∷ tick ∷ tick ∷ tick ∷
     frame (5 ∷ 1 ∷ 134 ∷ 104 ∷ 248 ∷ []) 0 ∷ frame (5 ∷ 1 ∷ 134 ∷ 104 ∷ 248 ∷ []) 1000 ∷
-    frame (9 ∷ 1 ∷ 133 ∷ 1 ∷ 9 ∷ 233 ∷ 253 ∷ 210 ∷ 8 ∷ []) reply_room ∷ frame (2 ∷ 0 ∷ 7 ∷ 1 ∷ 134 ∷ 227 ∷ 82 ∷ []) reply_room ∷ tick ∷
-    frame (5 ∷ 1 ∷ 134 ∷ 104 ∷ 248 ∷ []) reply_room ∷ frame (9 ∷ 1 ∷ 133 ∷ 1 ∷ 0 ∷ 233 ∷ 251 ∷ 250 ∷ 241 ∷ []) reply_room ∷
+    frame (9 ∷ 1 ∷ 133 ∷ 1 ∷ 9 ∷ 233 ∷ 253 ∷ 210 ∷ 8 ∷ []) reply_room ∷ frame (2 ∷ 0 ∷ 7 ∷ 1 ∷ 134 ∷ 227 ∷ 82 ∷ []) reply_room ∷
+    tick ∷ frame (5 ∷ 1 ∷ 134 ∷ 104 ∷ 248 ∷ []) reply_room ∷ frame (9 ∷ 1 ∷ 133 ∷ 1 ∷ 0 ∷ 233 ∷ 251 ∷ 250 ∷ 241 ∷ []) reply_room ∷
     frame (5 ∷ 1 ∷ 134 ∷ 104 ∷ 248 ∷ []) 1000 ∷ tick ∷ frame (2 ∷ 0 ∷ 7 ∷ 1 ∷ 134 ∷ 227 ∷ 82 ∷ []) reply_room ∷
     frame (9 ∷ 1 ∷ 133 ∷ 23 ∷ 59 ∷ 229 ∷ 80 ∷ 176 ∷ 100 ∷ []) reply_room ∷ tick ∷ tick ∷ tick ∷ tick ∷ tick ∷ tick ∷ tick ∷ tick ∷
     tick ∷ tick ∷ tick ∷ tick ∷ tick ∷ tick ∷ tick ∷ frame (2 ∷ 0 ∷ 7 ∷ 1 ∷ 134 ∷ 227 ∷ 82 ∷ []) 1000 ∷

@@ -9,8 +9,9 @@ use Rattle.rules.proofs.Computed.{computed}
 unfoldable pub events : List Event
 events =
     frame (2 ∷ 0 ∷ 11 ∷ 2 ∷ 160 ∷ 128 ∷ 0 ∷ 0 ∷ 0 ∷ 156 ∷ 108 ∷ []) 0 ∷
-    frame (2 ∷ 0 ∷ 11 ∷ 2 ∷ 160 ∷ 128 ∷ 0 ∷ 0 ∷ 0 ∷ 156 ∷ 108 ∷ []) reply_room ∷ frame (6 ∷ 2 ∷ 128 ∷ 140 ∷ 171 ∷ 63 ∷ []) reply_room ∷
-    frame (2 ∷ 0 ∷ 11 ∷ 2 ∷ 160 ∷ 0 ∷ 0 ∷ 0 ∷ 0 ∷ 242 ∷ 65 ∷ []) reply_room ∷ frame (6 ∷ 2 ∷ 128 ∷ 0 ∷ 207 ∷ 113 ∷ []) reply_room ∷
+    frame (2 ∷ 0 ∷ 11 ∷ 2 ∷ 160 ∷ 128 ∷ 0 ∷ 0 ∷ 0 ∷ 156 ∷ 108 ∷ []) reply_room ∷
+    frame (6 ∷ 2 ∷ 128 ∷ 140 ∷ 171 ∷ 63 ∷ []) reply_room ∷ frame (2 ∷ 0 ∷ 11 ∷ 2 ∷ 160 ∷ 0 ∷ 0 ∷ 0 ∷ 0 ∷ 242 ∷ 65 ∷ []) reply_room ∷
+    frame (6 ∷ 2 ∷ 128 ∷ 0 ∷ 207 ∷ 113 ∷ []) reply_room ∷
     frame (20 ∷ 2 ∷ 129 ∷ 192 ∷ 128 ∷ 0 ∷ 0 ∷ 0 ∷ 0 ∷ 0 ∷ 0 ∷ 0 ∷ 0 ∷ 0 ∷ 0 ∷ 0 ∷ 0 ∷ 0 ∷ 128 ∷ 112 ∷ []) reply_room ∷
     frame (2 ∷ 0 ∷ 22 ∷ 2 ∷ 129 ∷ 0 ∷ 128 ∷ 0 ∷ 0 ∷ 0 ∷ 0 ∷ 0 ∷ 0 ∷ 0 ∷ 0 ∷ 0 ∷ 0 ∷ 0 ∷ 0 ∷ 0 ∷ 232 ∷ 83 ∷ []) 1000 ∷
     frame (2 ∷ 0 ∷ 22 ∷ 2 ∷ 129 ∷ 128 ∷ 128 ∷ 0 ∷ 0 ∷ 0 ∷ 0 ∷ 0 ∷ 0 ∷ 0 ∷ 0 ∷ 0 ∷ 0 ∷ 0 ∷ 0 ∷ 0 ∷ 157 ∷ 108 ∷ []) 1000 ∷

@@ -5,3 +5,4 @@ pub mod Short
 pub mod Alone
 pub mod Steps
 pub mod HeldBack
+pub mod Making

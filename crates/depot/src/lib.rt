@@ -11,6 +11,7 @@ use events::Answer;
 use frame::Refusal;
 
 // Makes a fresh store of a buffer of the right size.
+#[tactic(auto, using(crate::proofs::Making::refused_by_size, crate::proofs::Making::made_by_size))]
 pub fn fresh(store: &mut [u8]) -> Answer
     ensures { Made store.old result store.new }
 {
