@@ -1,10 +1,10 @@
 // The static library of the box: each of its calls is that of `depot_c`, under the same name and with the same promise.
 #![tactic(auto)]
 
-ghost use Rattle.std.specs.Prelude.{◌≡◌, ◌<◌, ◌^◌, [], length};
+ghost use Rattle.std.specs.Prelude.{[], length};
 ghost use Rattle.rules.specs.Box.{Event};
 ghost use Rattle.codes.specs.Codes.{octet_of};
-ghost use Rattle.depot_c.specs.Coded.{code_of, CalledAs, MadeAs, TestedAs};
+ghost use Rattle.depot_c.specs.Coded.{CalledAs, MadeAs, TestedAs};
 
 // Makes a fresh store.
 #[unsafe(no_mangle)]

@@ -1,10 +1,7 @@
 // The static library of the host side: each of its calls is that of `host_c`, under the same name and with the same promise.
 #![tactic(auto)]
 
-ghost use Rattle.std.specs.Prelude.{◌≡◌, ◌<◌, ◌^◌, length};
-ghost use Rattle.table.specs.Entries.{record_width};
-ghost use Rattle.rules.specs.Config.{block_size};
-ghost use Rattle.rules.specs.Line.{line};
+ghost use Rattle.std.specs.Prelude.{◌≡◌};
 ghost use Rattle.reader.specs.Reader.{finding_of, read_as};
 ghost use Rattle.asking.specs.Numbers.{request_of};
 ghost use Rattle.host_c.specs.Coded.{read_code, LineAs, LinesAs, FramedAs, BlockAs, TimerAs, SizesAs, RecordAs};
