@@ -69,11 +69,8 @@ pub fn play(rt: &impl Print, script: &[u8], store: &mut [u8], out: &mut [u8]) ->
 }
 
 // All steps of the script that stands on standard input.
-pub fn play_input(
-    rt: &(impl Input + Print + Alloc),
-    store: &mut [u8],
-    out: &mut [u8],
-) -> io::Result<()> {
-    let script = show::input(rt)?;
-    play(rt, script.as_slice(), store, out)
+pub fn play_input(rt: &(impl Input + Print), store: &mut [u8], out: &mut [u8]) -> io::Result<()> {
+    let mut script = [0u8; show::SCRIPT];
+    let n = show::input(rt, &mut script)?;
+    play(rt, &script[..n], store, out)
 }

@@ -12,7 +12,7 @@
 //     poke AT AT OCTET ..           octets of the store are written
 #![tactic(auto)]
 
-ghost use Rattle.std.specs.Prelude.{◌≤◌, length};
+ghost use Rattle.std.specs.Prelude.{◌≤◌, length, IfOk};
 
 use events::Answer;
 use frame::{Advanced, Kind, Standard};
@@ -338,19 +338,28 @@ pub fn play(rt: &impl Print, script: &[u8], store: &mut [u8], out: &mut [u8]) ->
     Ok(())
 }
 
-// The script that stands on standard input, of which no more than 65536 octets are read.
-pub fn input<R: Input + Alloc>(rt: &R) -> io::Result<Vec<u8, R::A>> {
-    let mut script = Vec::new(rt.alloc());
-    rt.reader().take(65536).read_to_end(&mut script)?;
-    Ok(script)
+// The room for a script.
+pub const SCRIPT: usize = 65536;
+
+// Reads standard input to the start of a buffer, up to the end of either, and answers how many octets that are.
+pub fn input(rt: &impl Input, script: &mut [u8]) -> io::Result<usize>
+    ensures { IfOk result (λ n. n ≤ length script.new) }
+{
+    let mut reader = rt.reader();
+    let mut at: usize = 0;
+    while at < script.len() {
+        let n = reader.read(&mut script[at..])?;
+        if n == 0 {
+            break;
+        }
+        at += n;
+    }
+    Ok(at)
 }
 
 // All steps of the script that stands on standard input.
-pub fn play_input(
-    rt: &(impl Input + Print + Alloc),
-    store: &mut [u8],
-    out: &mut [u8],
-) -> io::Result<()> {
-    let script = input(rt)?;
-    play(rt, script.as_slice(), store, out)
+pub fn play_input(rt: &(impl Input + Print), store: &mut [u8], out: &mut [u8]) -> io::Result<()> {
+    let mut script = [0u8; SCRIPT];
+    let n = input(rt, &mut script)?;
+    play(rt, &script[..n], store, out)
 }
