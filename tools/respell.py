@@ -5,8 +5,8 @@ usage: python3 tools/respell.py [ROOT]
 
 Definitions, lemmas, fields and cases that are spelled inTwoCases become in_two_cases, in every .antt, .rt and .edit file below
 crates/. Functions of src/ are in snake case already and keep their names, and so do types and modules. Where a lemma would then
-have its definition's name it gets `_lem`; `firstOf` becomes `first_said`, since `first_of` is a tactic. Run it once: a second run
-changes nothing.
+have its definition's name it gets `_lem`; `firstOf` becomes `first_said`, since `first_of` is a tactic. Run it once, on what
+port.py left: a second run would take definitions for the lemmas that it renames.
 """
 
 import os
