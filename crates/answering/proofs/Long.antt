@@ -1,4 +1,5 @@
 -- A frame of more octets than any may have is refused whatever its octets are, so two such are answered alike. Assumes nothing.
+use Rattle.std.specs.Prelude.{Result}
 use Prim.Native.Nat.{ℕ, ◌+◌, ◌/◌, ◌≤◌, ◌<◌, min}
 use mathlib.Core.Path.{◌≡◌, refl, sym, ap, subst, ◌∙◌}
 use mathlib.Core.List.{List}
@@ -10,6 +11,7 @@ use lib.Seq.{length-take-le, take_all}
 use Rattle.octets.specs.Tests.{first}
 use Rattle.octets.specs.Parts.{part, put}
 use Rattle.octets.proofs.Puts.{part-put-same}
+use Rattle.frame.specs.declared.Refusal.{Refusal}
 use Rattle.frame.specs.declared.Kind.{Kind}
 use Rattle.frame.specs.declared.Kind.TheVariants.{Standard, Advanced}
 use Rattle.frame.specs.declared.Way.TheVariants.{Request}
@@ -46,7 +48,7 @@ module _ (f g : List ℕ) (room : ℕ) (s : List ℕ) where
         | no n ↦ refused-alike 32 (judge-refused f room (omega arith) 32 (too_long f h)) (judge-refused g room (omega arith) 32 (too_long g l))
       ]
 
-  module _ (out : List ℕ) (a : Answer) (s' out' : List ℕ) where
+  module _ (out : List ℕ) (a : Result Answer Refusal) (s' out' : List ℕ) where
     pub long-called : reply_room < length f → reply_room < length g → Called (frame f room) s out a s' out' → Called (frame g room) s out a s' out'
     long-called h l q = record { ended = subst (λ (x : Step). Ended x.answer x.box s out a s' out') (long-alike h l) q.ended }
 
@@ -56,7 +58,7 @@ unfolding part
 first-put xs made made' n l h p = ap (take n) p ∙ rw (← l) (part-put-same 0 xs made (omega arith))
 
 -- the digits t make a frame; the first of its octets were written and handed on
-pub handed-on : (t made made' : List ℕ) (n room : ℕ) (s out : List ℕ) (a : Answer) (s' out' : List ℕ) → length made ≡ reply_room + 1 → n ≡ min (length t / 2) (length made)
+pub handed-on : (t made made' : List ℕ) (n room : ℕ) (s out : List ℕ) (a : Result Answer Refusal) (s' out' : List ℕ) → length made ≡ reply_room + 1 → n ≡ min (length t / 2) (length made)
     → made' ≡ put 0 (take n (octets_of t)) made → Called (frame (take n made') room) s out a s' out' → Called (frame (octets_of t) room) s out a s' out'
 handed-on t made made' n room s out a s' out' e m p q =
     let l : length (take n (octets_of t)) ≡ n = length-take-le n (octets_of t) (omega (arith, octets-length t)) in

@@ -1,4 +1,5 @@
 -- On a sound store a line is answered as the rules say: what is printed, and the box after it. Assumes nothing.
+use Rattle.std.specs.Prelude.{Result}
 use Prim.Native.Nat.{ℕ, ◌≤◌}
 use mathlib.Core.Path.{◌≡◌, refl, ap, subst, ◌∙◌}
 use mathlib.Core.Bool.{true}
@@ -9,6 +10,7 @@ use lib.ListN.{length, take}
 use Rattle.octets.specs.Tests.{first}
 use Rattle.octets.specs.Parts.{part}
 use Rattle.octets.proofs.Puts.{put-length, part-put-same}
+use Rattle.frame.specs.declared.Refusal.{Refusal}
 use Rattle.frame.specs.Shape.{reply_room}
 use Rattle.rules.specs.Box.{Box, Event, Answer as RuleAnswer, refused, reply, seen, ok, AtDesk, desk_at, sighted, placed, unless_refused, sighting_refusals, step}
 use Rattle.store.specs.View.{view}
@@ -25,7 +27,7 @@ use Rattle.answering.specs.Answered.{Answered}
 
 -- ---- what is printed for the rules' answer
 
-module _ (box : Box) (s out : List ℕ) (a : Answer) (s' out' : List ℕ) where
+module _ (box : Box) (s out : List ℕ) (a : Result Answer Refusal) (s' out' : List ℕ) where
   -- the octets of a reply stand in the buffer that is printed
   ended-line : (t : RuleAnswer) (shown : List ℕ) → ((x : List ℕ) → t ≡ reply x → take (length x) shown ≡ x) → Ended t box s out a s' out' → printed a shown ≡ answer_line t
   unfolding printed answer_line
@@ -72,7 +74,7 @@ pub record Means (d : Said) (reply out : List ℕ) (n : ℕ) (s' reply' out' : L
 
 module _ (s reply out : List ℕ) (n : ℕ) (s' reply' out' : List ℕ) (q : sound s ≡ true) where
   -- an event that was called with a buffer and answered by its text
-  event-means : (e : Event) (a : Answer) (lent lent' : List ℕ) → length reply' ≡ length reply → Called e s lent a s' lent'
+  event-means : (e : Event) (a : Result Answer Refusal) (lent lent' : List ℕ) → length reply' ≡ length reply → Called e s lent a s' lent'
       → ((x : List ℕ) → (step (view s) e).answer ≡ RuleAnswer.reply x → take (length x) reply' ≡ x)
       → Printed (printed a reply') out n out' → Means (answer_to (view s) e) reply out n s' reply' out'
   unfolding answer_to

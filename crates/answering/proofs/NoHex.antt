@@ -1,4 +1,5 @@
 -- A line that is no hex: what it is, by the tests that the code makes, and what a sighting is answered. Assumes nothing.
+use Rattle.std.specs.Prelude.{Result}
 use Prim.Native.Nat.{ℕ, ◌-◌, ◌/◌, ◌≤◌, ◌<◌, min}
 use mathlib.Core.Path.{◌≡◌, refl, ap, ◌∙◌}
 use mathlib.Core.Bool.{Bool, true, false, ◌&&◌}
@@ -8,6 +9,7 @@ use borrow.Author.Tests.{ne_eqb, eqb-true}
 use lib.ListN.{length, get_or, take, drop, length-drop}
 use lib.Dec.{eqb}
 use lib.Seq.{take_all}
+use Rattle.frame.specs.declared.Refusal.{Refusal}
 use Rattle.octets.specs.Tests.{all_of}
 use Rattle.octets.specs.Parts.{part, put}
 use Rattle.octets.specs.Numbers.{number}
@@ -59,7 +61,7 @@ nine-octets s rest zeros nine n l e z m p =
     ∙ rw (take_all n (octets_of rest) (omega (arith, octets-length rest))) (put_whole (octets_of rest) zeros (omega (arith, octets-length rest)))
     ∙ ap octets_of e
 
-pub sighting-answered : (s nine : List ℕ) (uid : ℕ) (store reply out : List ℕ) (a : Answer) (n : ℕ) (store' out' : List ℕ)
+pub sighting-answered : (s nine : List ℕ) (uid : ℕ) (store reply out : List ℕ) (a : Result Answer Refusal) (n : ℕ) (store' out' : List ℕ)
     → nine ≡ octets_of (drop 2 s) → uid ≡ number (part 0 8 nine) → Called (Event.sighting (get_or s 1 0 - 0x30) uid (get_or nine 8 0)) store [] a store' []
     → Printed (printed a reply) out n out' → Answered (sighting_of s) store reply out n store' reply out'
 unfolding sighting_of

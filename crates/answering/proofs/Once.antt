@@ -1,8 +1,10 @@
 -- Two outcomes of a line's answer are equal: how much is printed, the output, the reply buffer, and what the store says. Assumes nothing.
+use Rattle.std.specs.Prelude.{Result}
 use Prim.Native.Nat.{ℕ}
 use mathlib.Core.Path.{◌≡◌, refl, sym, ap, ap₂, ◌∙◌}
 use mathlib.Core.List.{List, []}
 use lib.ListN.{length}
+use Rattle.frame.specs.declared.Refusal.{Refusal}
 use Rattle.octets.specs.Parts.{put}
 use Rattle.rules.specs.Box.{Event}
 use Rattle.events.specs.declared.Answer.{Answer}
@@ -36,12 +38,12 @@ module _ (s u reply out : List ℕ) (n n'' : ℕ) (s' u' reply' reply'' out' out
       let a = p.answers in
       let b = q.answers in
       let o = once-as-one (Event.sighting desk uid mask) s u [] a.0 b.0 s' u' [] [] one a.1 b.1 in
-      alike _ _ (ap (λ (x : Answer). printed x reply) o.answers) o.stores (a.2 ∙ sym b.2) a.3 b.3
+      alike _ _ (ap (λ (x : Result Answer Refusal). printed x reply) o.answers) o.stores (a.2 ∙ sym b.2) a.3 b.3
   answered-once tick p q =
       let a = p.answers in
       let b = q.answers in
       let o = once-as-one Event.tick s u [] a.0 b.0 s' u' [] [] one a.1 b.1 in
-      alike _ _ (ap (λ (x : Answer). printed x reply) o.answers) o.stores (a.2 ∙ sym b.2) a.3 b.3
+      alike _ _ (ap (λ (x : Result Answer Refusal). printed x reply) o.answers) o.stores (a.2 ∙ sym b.2) a.3 b.3
   answered-once not_read p q =
       let a = p.answers in
       let b = q.answers in

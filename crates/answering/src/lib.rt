@@ -1,4 +1,6 @@
 // What a line is answered: a frame that stands in digits, or a line that is no hex.
+// Store, reply and output are lent each by itself, here and in `readoff`, `turning` and `taking`: a struct of the three would owe in each
+// function that its fields are still these references.
 #![tactic(auto)]
 
 ghost use Rattle.std.specs.Prelude.{◌≡◌, true, ◌≤◌, length};
@@ -29,7 +31,7 @@ fn sighted(s: &[u8], store: &mut [u8], reply: &mut [u8], out: &mut [u8]) -> usiz
     let mut nine = [0u8; 9];
     decode(&s[2..], &mut nine);
     let desk = s[1] - 0x30;
-    let a = depot::sighting(store, desk as u64, octets::number64(&nine, 0), nine[8]);
+    let a = depot::sighting(store, desk as u64, octets::number::<8>(&nine, 0), nine[8]);
     show(a, reply, out)
 }
 
@@ -40,10 +42,10 @@ pub fn other(s: &[u8], store: &mut [u8], reply: &mut [u8], out: &mut [u8]) -> us
 {
     if text::is_tick(s) {
         let a = depot::tick(store);
-        return show(a, reply, out);
+        show(a, reply, out)
+    } else if text::is_sighting(s) {
+        sighted(s, store, reply, out)
+    } else {
+        not_read(out)
     }
-    if text::is_sighting(s) {
-        return sighted(s, store, reply, out);
-    }
-    not_read(out)
 }

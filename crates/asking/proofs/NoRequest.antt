@@ -1,4 +1,5 @@
 -- What is no request is refused: by the maker with 6, after 5, and by the reader with 8, after the frame's faults. Assumes nothing.
+use Rattle.std.specs.Prelude.{None}
 use Prim.Native.Nat.{ℕ, ◌≤◌}
 use mathlib.Core.Path.{◌≡◌, refl}
 use mathlib.Core.Bool.{Bool, true, false, cond, and-false}
@@ -9,7 +10,6 @@ use borrow.Author.Tests.{le-ltb}
 use Rattle.octets.specs.Tests.{first}
 use Rattle.frame.specs.declared.Way.TheVariants.{Reply}
 use Rattle.frame.specs.Judged.{faults}
-use Rattle.rules.specs.declared.control.Known.TheVariants.{Unknown}
 use Rattle.rules.specs.Control.{commands, known_in, known}
 use Rattle.rules.specs.Box.{no_desk}
 use Rattle.requests.specs.declared.Request.{Request}
@@ -21,7 +21,7 @@ use Rattle.codes.specs.Codes.{octet_of}
 use Rattle.asking.specs.Numbers.{no_ask, whole, request_of}
 
 -- no frame kind or no block beside a write; or a control byte that is none of the fourteen
-pub no-ask : (kind desk control a b c : ℕ) (bytes : List ℕ) → (whole kind (octet_of control) bytes ≡ false) ⊎ (known (octet_of control) ≡ Unknown) → (request_of kind desk control a b c bytes).ask ≡ no_ask
+pub no-ask : (kind desk control a b c : ℕ) (bytes : List ℕ) → (whole kind (octet_of control) bytes ≡ false) ⊎ (known (octet_of control) ≡ None) → (request_of kind desk control a b c bytes).ask ≡ no_ask
 unfolding request_of
 no-ask kind desk control a b c bytes (inl e) = rw e
 no-ask kind desk control a b c bytes (inr e) = rw e (go (whole kind (octet_of control) bytes))
@@ -31,7 +31,7 @@ no-ask kind desk control a b c bytes (inr e) = rw e (go (whole kind (octet_of co
     go false = refl
 
 -- a number above 255 is no control byte
-pub no-control : (control : ℕ) → 256 ≤ control → known (octet_of control) ≡ Unknown
+pub no-control : (control : ℕ) → 256 ≤ control → known (octet_of control) ≡ None
 unfolding octet_of known known_in commands
 no-control control h = rw (le-ltb control 256 h)
 

@@ -9,18 +9,22 @@ use codes::octet_of;
 use frame::Kind;
 use requests::{Ask, Request};
 use rules::BLOCK;
-use rules::control::{Command, Known, RowCommand, TableCommand};
+use rules::control::{Command, RowCommand, TableCommand};
 
+// A kind and a command by number, and beside them the numbers a, b, c: the C interface passes numbers.
+#[tactic(auto, unfolding(crate::specs::Numbers::kind_named))]
 fn kind_of(kind: u64) -> Kind
     ensures { result ≡ kind_named kind }
 {
     if kind == 0 {
-        return Kind::Standard;
+        Kind::Standard
+    } else {
+        Kind::Advanced
     }
-    Kind::Advanced
 }
 
 // What a command asks with three numbers.
+// A match here and below: the wire has these commands alone, and a match over the enum is checked to be whole; a table of functions is not.
 fn row_ask(command: RowCommand, a: u64, b: u64, c: u64) -> Ask
     ensures { result ≡ row_ask command a b c }
 {
@@ -63,35 +67,29 @@ fn ask_of(control: u8, a: u64, b: u64, c: u64) -> Ask
     ensures { result ≡ ask_of (known control) a b c }
 {
     match control::decide(control) {
-        Known::Listed(t) => {
-            let command = t.command;
-            ask_with(command, a, b, c)
-        }
-        Known::Unknown => Ask::Baud(256),
+        Some(t) => ask_with(t.command, a, b, c),
+        None => Ask::Baud(256),
     }
 }
 
 // Whether a frame kind is named, and a write has the bytes of a block.
+#[tactic(auto, unfolding(crate::specs::Numbers::whole))]
 fn is_whole(kind: u64, control: u8, bytes: &[u8]) -> bool
     ensures { result ≡ whole kind control bytes.now }
 {
-    if kind >= 2 {
-        return false;
-    }
-    if control != 0x81 {
-        return true;
-    }
-    bytes.len() == BLOCK
+    kind < 2 && (control != 0x81 || bytes.len() == BLOCK)
 }
 
 // That of a whole request; what is none is one whose value its field can't hold.
+// No Option: `request_of` of specs/Numbers.antt gives a request for any numbers, and the promises of the C calls rest on it.
 fn ask_if(whole: bool, control: u8, a: u64, b: u64, c: u64) -> Ask
     ensures { result ≡ cond whole (ask_of (known control) a b c) no_ask }
 {
     if whole {
-        return ask_of(control, a, b, c);
+        ask_of(control, a, b, c)
+    } else {
+        Ask::Baud(256)
     }
-    Ask::Baud(256)
 }
 
 // The request that the numbers name.
@@ -106,14 +104,11 @@ pub fn request_of(
 ) -> Request
     ensures { result ≡ request_of kind desk control a b c bytes.now }
 {
-    let block = typed::block_in(bytes);
-    let written = block.bytes;
     let octet = octet_of(control);
-    let ask = ask_if(is_whole(kind, octet, bytes), octet, a, b, c);
     Request {
         kind: kind_of(kind),
         desk,
-        ask: ask,
-        bytes: written,
+        ask: ask_if(is_whole(kind, octet, bytes), octet, a, b, c),
+        bytes: typed::block_in(bytes).unwrap_or([0; BLOCK]),
     }
 }

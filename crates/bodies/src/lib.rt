@@ -34,19 +34,11 @@ fn put_timer(out: &mut [u8], h: u64, m: u64, ms: u64)
 {
     out[0] = h as u8;
     out[1] = m as u8;
-    octets::put16(out, 2, ms as u16);
-}
-
-// Writes a password.
-fn put_password(out: &mut [u8], n: u64)
-    requires { 4 ≤ length out.old }
-    ensures { out.new ≡ put 0 (octets 4 n) out.old }
-{
-    let d = octets::octets32(n);
-    octets::copy_to(out, 0, &d);
+    octets::put::<2>(out, 2, ms);
 }
 
 // Writes the data of a request.
+// One arm a command, in the paper's order: the wire has these commands alone, and a match over the enum is checked to be whole.
 pub fn put_data(out: &mut [u8], ask: Ask, bytes: [u8; BLOCK])
     requires { (fields_hold ask ≡ true) × (length (body_of ask bytes) ≤ length out.old) }
     ensures { out.new ≡ put 0 (body_of ask bytes) out.old }
@@ -61,8 +53,8 @@ pub fn put_data(out: &mut [u8], ask: Ask, bytes: [u8; BLOCK])
         Ask::RestoreBlocks(adr) => put_octet(out, adr),
         Ask::SetTimer(h, m, ms) => put_timer(out, h, m, ms),
         Ask::SendTimer => (),
-        Ask::Login(password) => put_password(out, password),
-        Ask::ReadRecords(k) => octets::put16(out, 0, k as u16),
+        Ask::Login(password) => octets::put::<4>(out, 0, password),
+        Ask::ReadRecords(k) => octets::put::<2>(out, 0, k),
         Ask::SendTable => (),
         Ask::RemoveRecords => (),
         Ask::ClearRecords => (),

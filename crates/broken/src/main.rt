@@ -71,17 +71,17 @@ fn compare(
     out: &[u8],
     noted: &[u8],
 ) -> io::Result<()> {
-    if show::alike(store, before) && show::alike(out, noted) {
-        show::word(rt, b"kept\n")
+    if before.starts_with(store) && noted.starts_with(out) {
+        print!(rt; "kept\n")
     } else {
-        show::word(rt, b"changed\n")
+        print!(rt; "changed\n")
     }
 }
 
 fn ask(rt: &impl Print, line: &[u8], store: &mut [u8], out: &mut [u8]) -> io::Result<()> {
     let s = show::act(line, store, out);
     show::say(rt, out, s)?;
-    show::word(rt, b" ")
+    print!(rt; " ")
 }
 
 // A line: the name of the store, what the three calls say to it, and whether all octets are as before.
@@ -113,22 +113,11 @@ fn copy(rt: &impl Print, line: &[u8], store: &[u8], out: &mut [u8]) -> io::Resul
 }
 
 fn step(rt: &impl Print, line: &[u8], store: &mut [u8], out: &mut [u8]) -> io::Result<()> {
-    if show::letter(line) == b'p' {
+    if show::letter(line) == Some(b'p') {
         copy(rt, line, store, out)
     } else {
         show::step(rt, line, store, out)
     }
-}
-
-fn rules(rt: &impl Print, script: &[u8], store: &mut [u8], out: &mut [u8]) -> io::Result<()> {
-    let mut at: usize = 0;
-    while at < script.len() {
-        let start = at + 1;
-        let end = show::until(script, start, b'\n');
-        step(rt, &script[start..end], store, out)?;
-        at = end;
-    }
-    Ok(())
 }
 
 fn main(rt: HostRuntime) -> io::Result<()> {
@@ -136,5 +125,5 @@ fn main(rt: HostRuntime) -> io::Result<()> {
     let mut out = [0x5Au8; Advanced::LONGEST];
     show::play(&rt, &MADE, &mut store, &mut out)?;
     sizes(&rt, &store, &mut out)?;
-    rules(&rt, &RULES, &mut store, &mut out)
+    show::each_line(&RULES, |line| step(&rt, line, &mut store, &mut out))
 }

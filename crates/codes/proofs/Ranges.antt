@@ -1,4 +1,5 @@
 -- The ranges of the numbers share none of them, end before 2^64, and the numbers of refusals and of lengths stand in theirs. Assumes nothing.
+use Rattle.std.specs.Prelude.{Ok}
 use Prim.Native.Nat.{ℕ, ◌+◌, ◌^◌, ◌<◌}
 use mathlib.Core.Path.{◌≡◌, refl}
 use mathlib.Core.Bool.{Bool, true}
@@ -14,7 +15,6 @@ use Rattle.octets.proofs.Every.{every-at}
 use Rattle.frame.specs.declared.Refusal.{Refusal}
 use Rattle.frame.specs.Refusal.{number_of}
 use Rattle.frame.proofs.Bounds.{number_small}
-use Rattle.rules.specs.declared.Written.{Written}
 use Rattle.codes.specs.Codes.{In, refused, written, range_count, range_at, written_code}
 
 abbrev from_of : ℕ → ℕ
@@ -58,5 +58,5 @@ one-range i j n hi hj p q =
 pub number_in : (r : Refusal) → In refused (number_of r)
 number_in r = ((number_small r).0, (number_small r).1)
 
-pub written_in : (n : ℕ) → n < 2 ^ 63 → In written (written_code (Written.Octets n))
+pub written_in : (n : ℕ) → n < 2 ^ 63 → In written (written_code (Ok n))
 written_in n h = (omega arith, omega arith)

@@ -1,11 +1,10 @@
 -- How the answers of the calls become numbers of 64 bits: each kind of answer has a range of its own; and a number that C passes for an
 -- octet. Assumes nothing.
-use Rattle.std.specs.Prelude.{ℕ, ◌+◌, ◌*◌, ◌^◌, ◌≤◌, ◌<◌, cond, List, [], ◌∷◌, length, get_or, ltb}
+use Rattle.std.specs.Prelude.{ℕ, ◌+◌, ◌*◌, ◌^◌, ◌≤◌, ◌<◌, cond, List, [], ◌∷◌, length, get_or, ltb, Result, Ok, Err}
+use Rattle.frame.specs.declared.Refusal.{Refusal}
 use Rattle.frame.specs.Refusal.{number_of}
 use Rattle.rules.specs.declared.Seen.{Seen}
 use Rattle.rules.specs.declared.Seen.TheVariants.{Ignored, Lost, Recorded}
-use Rattle.rules.specs.declared.Written.{Written}
-use Rattle.rules.specs.declared.Written.TheVariants.{Octets, Refused}
 
 -- ---- the ranges
 
@@ -89,9 +88,9 @@ seen_code Lost = sighted.from + 1
 seen_code (Ignored left) = ignored.from + left
 
 -- the maker and the line writer
-abbrev pub written_code : Written → ℕ
-written_code (Refused r) = number_of r
-written_code (Octets n) = written.from + n
+abbrev pub written_code : Result ℕ Refusal → ℕ
+written_code (Err r) = number_of r
+written_code (Ok n) = written.from + n
 
 -- ---- what C passes
 

@@ -8,6 +8,8 @@ use lib.ListN.{length}
 use native.Mathlib.Omega.{arith}
 use lib.Seq.{take_all}
 use borrow.Author.Tests.{eqb-true}
+use Rattle.std.specs.Prelude.{Some, None, Option as Answer}
+use Rattle.std.specs.Option.{option_or}
 use Rattle.octets.specs.Tests.{first}
 use Rattle.octets.specs.Parts.{part}
 use Rattle.frame.specs.declared.Kind.{Kind}
@@ -20,7 +22,7 @@ use Rattle.rows.proofs.Changes.{change-none}
 use Rattle.effects.specs.declared.Reply.{Reply}
 use Rattle.effects.specs.Obeyed.{Allowed, does, RowObeyed, RowQuiet}
 use Rattle.effects.proofs.Answers.{quiet}
-use Rattle.commands.specs.Ruled.{said, first_said, row_ruled}
+use Rattle.commands.specs.Ruled.{said, row_ruled}
 
 -- all octets, as a part
 pub part-whole : (n : ℕ) (s : List ℕ) → length s ≡ n → part 0 n s ≡ s
@@ -63,18 +65,26 @@ sized-as {c} {c'} body e s = sized-size c' body (rw e at s)
 
 -- ---- tests
 
-pub tests-as : {c c' : RowCommand} (body : List ℕ) (status : ℕ) → c ≡ c' → first (row_tests c' body) ≡ said status → first (row_tests c body) ≡ said status
+pub tests-as : {c c' : RowCommand} (body : List ℕ) (status : Answer ℕ) → c ≡ c' → first (row_tests c' body) ≡ said status → first (row_tests c body) ≡ said status
 tests-as body status e q = rw e q
 
 -- of 0x11
-pub one-test : (b : Bool) → first ((0x11, b) ∷ []) ≡ said (cond b 0x11 0)
+pub one-test : (b : Bool) → first ((0x11, b) ∷ []) ≡ said (cond b (Some 0x11) None)
 unfolding first said
 one-test true = refl
 one-test false = refl
 
+-- of the two of a read, in their order
+pub two-tests : (a p : Bool) → first ((0x11, a) ∷ (0x15, p) ∷ []) ≡ said (option_or (cond a (Some 0x11) None) (cond p (Some 0x15) None))
+unfolding first said
+two-tests true p = refl
+two-tests false true = refl
+two-tests false false = refl
+
 -- of the three of a write, in their order
-pub three-tests : (a p u : Bool) → first ((0x11, a) ∷ (0x16, p) ∷ (0x11, u) ∷ []) ≡ said (first_said (cond a 0x11 0) (first_said (cond p 0x16 0) (cond u 0x11 0)))
-unfolding first said first_said
+pub three-tests : (a p u : Bool) → first ((0x11, a) ∷ (0x16, p) ∷ (0x11, u) ∷ []) ≡ said (option_or (option_or (cond a (Some 0x11) None) (cond p (Some 0x16) None)) (cond u (Some 0x11) None))
+unfolding first said
 three-tests true p u = refl
 three-tests false true u = refl
-three-tests false false u = one-test u
+three-tests false false true = refl
+three-tests false false false = refl

@@ -1,5 +1,6 @@
 -- Host and box read each other (demand 2's last sentence), and the reader refuses exactly what no sound store makes the box answer.
 -- Assumes nothing.
+use Rattle.std.specs.Prelude.{Ok, Result}
 use Prim.Native.Nat.{ℕ, ◌≤◌, ◌<◌}
 use mathlib.Core.Path.{◌≡◌, refl, sym, ap, ◌∙◌}
 use mathlib.Core.Bool.{true, not}
@@ -11,13 +12,13 @@ use lib.Seq.{take_at, get_or-set_same}
 use borrow.Author.Tests.{ltb-false, not-true, not-false, leb-false}
 use Rattle.table.specs.Entries.{desks}
 use Rattle.rules.specs.Config.{block_size}
+use Rattle.frame.specs.declared.Refusal.{Refusal}
 use Rattle.frame.specs.Shape.{reply_room}
 use Rattle.octets.specs.Tests.{first}
 use Rattle.octets.proofs.Tests.{and_left, none-head, none_tail}
 use Rattle.octets.specs.Parts.{put}
 use Rattle.octets.proofs.Each.{all_set}
 use Rattle.octets.proofs.Puts.{put_front}
-use Rattle.rules.specs.declared.Written.TheVariants as written
 use Rattle.rules.specs.Desk.{Desk, fresh_desk}
 use Rattle.rules.specs.Box.{Box, fresh_box, desk_at, frame, reply, placed}
 use Rattle.rules.specs.Legal.{box_legal}
@@ -68,7 +69,7 @@ module _ (q : Request) (c : Carriable q) (s : List ℕ) (still : sound s ≡ tru
         ∙ take_at (reply_to q s) _ (length (reply_to q s)) refl
 
     -- what the maker made is answered, and the reply in the output is read back as it was sent
-    pub host-hears : (a : Answer) (s' out' : List ℕ) → Called (frame (request_frame q) (length out)) s out a s' out' → ReadBack q s a s' out'
+    pub host-hears : (a : Result Answer Refusal) (s' out' : List ℕ) → Called (frame (request_frame q) (length out)) s out a s' out' → ReadBack q s a s' out'
     host-hears a s' out' called =
         let e : Ended (reply (reply_to q s)) (step_on s (frame (request_frame q) (length out))).box s out a s' out' = rw steps at called.ended in
         let there = front out' e.1 in
@@ -84,7 +85,7 @@ module _ (q : Request) (c : Carriable q) (s : List ℕ) (still : sound s ≡ tru
 
 -- ---- what the maker made is the request's frame, and one that a box answers
 
-module _ (q : Request) (buf : List ℕ) (n : ℕ) (buf' : List ℕ) (made : Requested q buf (written.Octets n) buf') where
+module _ (q : Request) (buf : List ℕ) (n : ℕ) (buf' : List ℕ) (made : Requested q buf (Ok n) buf') where
   was-written : (first (maker_refusals q (length buf)) ≡ none) × (n ≡ length (request_frame q)) × (buf' ≡ put 0 (request_frame q) buf)
   was-written = wrote-octets (first (maker_refusals q (length buf))) (request_frame q) buf n buf' made
 

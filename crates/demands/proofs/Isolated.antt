@@ -1,4 +1,5 @@
 -- Demand 3: what a desk hears of a history goes by its own events alone. Assumes nothing.
+use Rattle.std.specs.Prelude.{Result}
 use Prim.Native.Nat.{ℕ, ◌≤◌, ◌<◌}
 use mathlib.Core.Path.{◌≡◌, refl, sym, ap, ap₂, subst, ◌∙◌}
 use mathlib.Core.Bool.{Bool, true, false, cond}
@@ -9,6 +10,7 @@ use lib.ListN.{length, take}
 use lib.Seq.{take_at}
 use borrow.Author.Tests.{ltb-false}
 use Rattle.table.specs.Entries.{desks}
+use Rattle.frame.specs.declared.Refusal.{Refusal}
 use Rattle.frame.specs.Shape.{reply_room}
 use Rattle.octets.specs.Tests.{first, all_of}
 use Rattle.octets.proofs.Tests.{none-head, and_left, and_right}
@@ -62,12 +64,12 @@ module _ (box : Box) (legal : BoxLegal box) where
 -- ---- what is heard of one call, and of all
 
 heard-is : (t : RuleAnswer) (d : Deed) → Gave t d → ((x : List ℕ) → t ≡ reply x → length x ≤ length (lent_to d.call)) → heard_of d ≡ t
-heard-is (refused n) d g fits = ap (λ (a : Answer). heard a d.output) g.0.answer-is ∙ ap refused g.0.number_is
+heard-is (refused n) d g fits = ap (λ (a : Result Answer Refusal). heard a d.output) g.0.answer-is ∙ ap refused g.0.number_is
 heard-is (reply t) d g fits =
     ap₂ heard g.0 g.1
     ∙ ap reply (ap (take (length t)) (put_front t (lent_to d.call) (fits t refl)) ∙ take_at t _ (length t) refl)
-heard-is (seen w) d g fits = ap (λ (a : Answer). heard a d.output) g.0
-heard-is ok d g fits = ap (λ (a : Answer). heard a d.output) g.0
+heard-is (seen w) d g fits = ap (λ (a : Result Answer Refusal). heard a d.output) g.0
+heard-is ok d g fits = ap (λ (a : Result Answer Refusal). heard a d.output) g.0
 
 module _ (n : ℕ) where
   heard-cond : (b : Bool) (x t : RuleAnswer) (xs ts : List RuleAnswer) → x ≡ t → xs ≡ ts → cond b (x ∷ xs) xs ≡ cond b (t ∷ ts) ts

@@ -1,5 +1,6 @@
 -- Demand 1 of the box: whatever the store, the octets and the numbers, the answer is of the event's kind or the first refusal of its list,
 -- and a refused call writes nothing. Assumes nothing.
+use Rattle.std.specs.Prelude.{Result, Err}
 use Prim.Native.Nat.{ℕ}
 use mathlib.Core.Path.{◌≡◌, refl, sym, ap, ◌∙◌}
 use mathlib.Core.Bool.{Bool, true, false, cond, not}
@@ -13,7 +14,6 @@ use Rattle.rules.specs.Box.{Box, Event, frame, sighting, tick, Answer as RuleAns
 use Rattle.store.specs.View.{view}
 use Rattle.store.specs.Sound.{sound}
 use Rattle.events.specs.declared.Answer.{Answer}
-use Rattle.events.specs.declared.Answer.TheVariants.{Refused}
 use Rattle.events.specs.Happened.{Ended}
 use Rattle.depot.specs.Called.{step_on, Called, test_refusals}
 use Rattle.demands.specs.Answers.{heard, number_heard, refusals_of, tests_of, of_its_kind}
@@ -39,8 +39,8 @@ on-number s e = go (sound s)
     go true = step-number (view s) e
     go false = refl
 
-module _ (box : Box) (s out : List ℕ) (a : Answer) (s' out' : List ℕ) where
-  abbrev here : Answer → Option ℕ
+module _ (box : Box) (s out : List ℕ) (a : Result Answer Refusal) (s' out' : List ℕ) where
+  abbrev here : Result Answer Refusal → Option ℕ
   here x = number_heard (heard x out')
 
   ended-number : (t : RuleAnswer) → Ended t box s out a s' out' → number_heard (heard a out') ≡ number_heard t
@@ -50,20 +50,20 @@ module _ (box : Box) (s out : List ℕ) (a : Answer) (s' out' : List ℕ) where
   ended-number ok p = ap here p.0
 
   -- a refused call writes nothing
-  ended-kept : (t : RuleAnswer) (r : Refusal) → a ≡ Refused r → Ended t box s out a s' out' → (s' ≡ s) × (out' ≡ out)
+  ended-kept : (t : RuleAnswer) (r : Refusal) → a ≡ Err r → Ended t box s out a s' out' → (s' ≡ s) × (out' ≡ out)
   ended-kept (refused n) r e p = p.1
   ended-kept (reply t) r e p = let z : ◌≡◌ {A = ℕ} 0 1 = cc in absurd (omega arith)
   ended-kept (seen w) r e p = let z : ◌≡◌ {A = ℕ} 0 1 = cc in absurd (omega arith)
   ended-kept ok r e p = let z : ◌≡◌ {A = ℕ} 0 1 = cc in absurd (omega arith)
 
-module _ (e : Event) (s out : List ℕ) (a : Answer) (s' out' : List ℕ) (c : Called e s out a s' out') where
+module _ (e : Event) (s out : List ℕ) (a : Result Answer Refusal) (s' out' : List ℕ) (c : Called e s out a s' out') where
   pub first-heard : number_heard (heard a out') ≡ first (tests_of s e)
   first-heard = ended-number (step_on s e).box s out a s' out' (step_on s e).answer c.ended ∙ on-number s e
 
-  pub refused-first : (r : Refusal) → a ≡ Refused r → (first (tests_of s e) ≡ some (number_of r)) × (s' ≡ s) × (out' ≡ out)
+  pub refused-first : (r : Refusal) → a ≡ Err r → (first (tests_of s e) ≡ some (number_of r)) × (s' ≡ s) × (out' ≡ out)
   refused-first r q =
       let kept = ended-kept (step_on s e).box s out a s' out' (step_on s e).answer r q c.ended in
-      (sym first-heard ∙ ap (λ (x : Answer). number_heard (heard x out')) q, kept.0, kept.1)
+      (sym first-heard ∙ ap (λ (x : Result Answer Refusal). number_heard (heard x out')) q, kept.0, kept.1)
 
 -- ---- every other answer is of the event's kind
 
@@ -86,7 +86,7 @@ on-kind s e = go (sound s)
     go true = step-kind (view s) e
     go false = unfold of_its_kind in refl
 
-module _ (box : Box) (s out : List ℕ) (a : Answer) (s' out' : List ℕ) where
+module _ (box : Box) (s out : List ℕ) (a : Result Answer Refusal) (s' out' : List ℕ) where
   ended-kind : (e : Event) (t : RuleAnswer) → Ended t box s out a s' out' → of_its_kind e t ≡ of_its_kind e (heard a out')
   unfolding of_its_kind
   ended-kind e (refused n) p = rw p.0.answer-is
@@ -100,5 +100,5 @@ module _ (box : Box) (s out : List ℕ) (a : Answer) (s' out' : List ℕ) where
   ended-kind tick (seen w) p = rw p.0
   ended-kind tick ok p = rw p.0
 
-pub always-of-kind : (e : Event) (s out : List ℕ) (a : Answer) (s' out' : List ℕ) → Called e s out a s' out' → of_its_kind e (heard a out') ≡ true
+pub always-of-kind : (e : Event) (s out : List ℕ) (a : Result Answer Refusal) (s' out' : List ℕ) → Called e s out a s' out' → of_its_kind e (heard a out') ≡ true
 always-of-kind e s out a s' out' c = sym (ended-kind (step_on s e).box s out a s' out' e (step_on s e).answer c.ended) ∙ on-kind s e

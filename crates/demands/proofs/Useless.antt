@@ -1,4 +1,5 @@
 -- The paper's useless boxes: for each a few calls after which no history has what such a box would do. Assumes nothing.
+use Rattle.std.specs.Prelude.{Result, Ok, Err}
 use Prim.Native.Nat.{ℕ, ◌<◌}
 use mathlib.Core.Path.{◌≡◌, refl, sym, ap, ◌∙◌}
 use mathlib.Core.List.{List, [], ◌∷◌, ◌++◌}
@@ -23,7 +24,7 @@ use Rattle.rules.specs.Records.{goes, counted}
 use Rattle.rules.specs.Events.{concerns, answers_of}
 use Rattle.rules.proofs.Computed.{computed}
 use Rattle.events.specs.declared.Answer.{Answer}
-use Rattle.events.specs.declared.Answer.TheVariants.{Refused, Sighted}
+use Rattle.events.specs.declared.Answer.TheVariants.{Sighted}
 use Rattle.requests.proofs.Values.{two_back}
 use Rattle.demands.specs.History.{Call, frame, sighting, tick, Deed, events_of, History}
 use Rattle.demands.specs.Answers.{heard, heard_by}
@@ -39,7 +40,7 @@ reply_of control sent = frame_of Standard 0 control (0x00 ∷ sent)
 abbrev zeros : ℕ → List ℕ
 zeros n = replicate n 0
 
-abbrev deed : Call → Answer → List ℕ → Deed
+abbrev deed : Call → Result Answer Refusal → List ℕ → Deed
 deed c a o = record { call = c; answer = a; output = o }
 
 -- what desk 0 heard of its call k
@@ -58,7 +59,7 @@ module _ (ds : List Deed) (s : List ℕ) (h : History ds s) (as' : List RuleAnsw
   came = heard-of-desk 0 ds s h ∙ e
 
 -- refuses all: a tick of a fresh store is answered ok
-pub refuses-all : (a : Answer) (o s : List ℕ) (r : Refusal) → History (deed tick a o ∷ []) s → a ≡ Refused r → ⊥
+pub refuses-all : (a : Result Answer Refusal) (o s : List ℕ) (r : Refusal) → History (deed tick a o ∷ []) s → a ≡ Err r → ⊥
 unfolding computed concerns answers_of heard_by
 refuses-all a o s r h e =
     let f : heard a o ≡ ok = ap (heard_at 0) (came (deed tick a o ∷ []) s h (ok ∷ []) refl) in
@@ -66,7 +67,7 @@ refuses-all a o s r h e =
     omega arith
 
 -- a constant reply, and a box that writes nothing: a login, a write and a read. What is read is what was written, and no reply of a login
-module _ (a b c : Answer) (x y z s : List ℕ) where
+module _ (a b c : Result Answer Refusal) (x y z s : List ℕ) where
   abbrev written-and-read : List Deed
   written-and-read = deed (ask 0xA0 (zeros 4)) a x ∷ deed (ask 0x81 (0x02 ∷ 1 ∷ zeros 13)) b y ∷ deed (ask 0x80 (0x02 ∷ [])) c z ∷ []
 
@@ -89,7 +90,7 @@ module _ (a b c : Answer) (x y z s : List ℕ) where
       omega arith
 
 -- ignores every sighting
-pub ignores-sightings : (a : Answer) (o s : List ℕ) (n : ℕ) → History (deed (sighting 0 7 1) a o ∷ []) s → a ≡ Sighted (Ignored n) → ⊥
+pub ignores-sightings : (a : Result Answer Refusal) (o s : List ℕ) (n : ℕ) → History (deed (sighting 0 7 1) a o ∷ []) s → a ≡ Ok (Sighted (Ignored n)) → ⊥
 unfolding computed concerns answers_of heard_by
 ignores-sightings a o s n h e =
     let f : heard a o ≡ seen Recorded = ap (heard_at 0) (came (deed (sighting 0 7 1) a o ∷ []) s h (seen Recorded ∷ []) refl) in
@@ -97,7 +98,7 @@ ignores-sightings a o s n h e =
     omega arith
 
 -- sleeps through ticks: after one the timer is sent as 100 ms
-pub sleeps-through-ticks : (a b : Answer) (x y s : List ℕ) → History (deed tick a x ∷ deed (ask 0x86 []) b y ∷ []) s → heard b y ≡ reply (reply_of 0x86 (zeros 4)) → ⊥
+pub sleeps-through-ticks : (a b : Result Answer Refusal) (x y s : List ℕ) → History (deed tick a x ∷ deed (ask 0x86 []) b y ∷ []) s → heard b y ≡ reply (reply_of 0x86 (zeros 4)) → ⊥
 unfolding computed concerns answers_of heard_by
 sleeps-through-ticks a b x y s h e =
     let f : heard b y ≡ reply (reply_of 0x86 (0 ∷ 0 ∷ 0 ∷ 100 ∷ [])) =
@@ -106,7 +107,7 @@ sleeps-through-ticks a b x y s h e =
     omega arith
 
 -- works at the first event and then pretends, and a made-up TAB-LEN: after two sightings two records are held
-pub pretends-after-the-first : (a b c : Answer) (x y z s : List ℕ) (n : ℕ)
+pub pretends-after-the-first : (a b c : Result Answer Refusal) (x y z s : List ℕ) (n : ℕ)
     → History (deed (sighting 0 7 1) a x ∷ deed (sighting 0 8 1) b y ∷ deed (ask 0x31 []) c z ∷ []) s
     → heard c z ≡ reply (reply_of 0x31 (0 ∷ 64 ∷ 0 ∷ 0 ∷ 0 ∷ n ∷ [])) → n ≡ 2
 unfolding computed concerns answers_of heard_by

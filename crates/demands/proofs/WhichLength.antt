@@ -1,5 +1,6 @@
 -- What an installer is told of a length (document 02, i), by the calls themselves: the number that the table of `which_length` gives, from the
 -- number of octets and the first three of them; and one of the four numbers for nothing else. Assumes nothing.
+use Rattle.std.specs.Prelude.{Result}
 use Prim.Native.Nat.{ℕ}
 use mathlib.Core.Path.{◌≡◌, refl, ap, ◌∙◌}
 use mathlib.Core.Bool.{Bool, true, false, cond, not, ◌&&◌}
@@ -11,6 +12,7 @@ use native.Mathlib.Omega.{arith}
 use borrow.Author.Tests.{lt-ltb, le-ltb, lt-leb, le-leb}
 use Rattle.octets.specs.Tests.{first}
 use Rattle.octets.proofs.Tests.{first-none, first-given}
+use Rattle.frame.specs.declared.Refusal.{Refusal}
 use Rattle.frame.specs.declared.Way.TheVariants.{Request as ToBox, Reply as FromBox}
 use Rattle.frame.specs.Shape.{reply_room}
 use Rattle.frame.specs.Finding.{number_in}
@@ -69,6 +71,6 @@ tests-tell s f room = go (sound s)
     go false = refl
 
 -- whatever the store and the room: with a sound one and enough of it the table's number; else none of the four, since 1 or 2 comes first
-pub box-tells : (f : List ℕ) (room : ℕ) (s out : List ℕ) (a : Answer) (s' out' : List ℕ) → Called (frame f room) s out a s' out'
+pub box-tells : (f : List ℕ) (room : ℕ) (s out : List ℕ) (a : Result Answer Refusal) (s' out' : List ℕ) → Called (frame f room) s out a s' out'
     → of_length (number_heard (heard a out')) ≡ cond (sound s && leb reply_room room) (which_of ToBox f) none
 box-tells f room s out a s' out' c = ap of_length (first-heard (frame f room) s out a s' out' c) ∙ tests-tell s f room

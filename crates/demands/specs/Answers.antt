@@ -1,22 +1,23 @@
 -- What a call answers, beside what the rules answer. Assumes nothing.
-use Rattle.std.specs.Prelude.{ℕ, ◌≡◌, Bool, true, false, cond, List, [], ◌∷◌, ◌++◌, length, take}
+use Rattle.std.specs.Prelude.{ℕ, ◌≡◌, Bool, true, false, cond, List, [], ◌∷◌, ◌++◌, length, take, Result, Ok, Err}
 use Rattle.std.proofs.Math.Option.{Option, none, some}
 use Rattle.octets.specs.Parts.{put}
+use Rattle.frame.specs.declared.Refusal.{Refusal}
 use Rattle.frame.specs.Refusal.{number_of, Refuses}
 use Rattle.rules.specs.Box.{Event, frame, sighting, tick, Answer as RuleAnswer, refused, reply, seen, ok, frame_refusals, sighting_refusals}
 use Rattle.rules.specs.Events.{concerns}
 use Rattle.events.specs.declared.Answer.{Answer}
-use Rattle.events.specs.declared.Answer.TheVariants.{Refused, Reply, Sighted, Done}
+use Rattle.events.specs.declared.Answer.TheVariants.{Reply, Sighted, Done}
 use Rattle.depot.specs.Called.{test_refusals}
 use Rattle.demands.specs.History.{Deed, event_of, lent_to}
 
 -- ---- what a caller hears, in the rules' words: a refusal by its number, a reply by its octets
 
-abbrev pub heard : Answer → List ℕ → RuleAnswer
-heard (Refused r) out = refused (number_of r)
-heard (Reply n) out = reply (take n out)
-heard (Sighted w) out = seen w
-heard Done out = ok
+abbrev pub heard : Result Answer Refusal → List ℕ → RuleAnswer
+heard (Err r) out = refused (number_of r)
+heard (Ok (Reply n)) out = reply (take n out)
+heard (Ok (Sighted w)) out = seen w
+heard (Ok Done) out = ok
 
 -- the number of a refusal
 abbrev pub number_heard : RuleAnswer → Option ℕ
@@ -52,10 +53,10 @@ of_its_kind tick ok = true
 -- ---- demand 2: the rules' answer, as the call gives it; a reply stands at the start of the output, and the octets after it stay
 
 abbrev pub Gave : RuleAnswer → Deed → Type 0
-Gave (refused n) d = Refuses Refused n d.answer × (d.output ≡ lent_to d.call)
-Gave (reply t) d = (d.answer ≡ Reply (length t)) × (d.output ≡ put 0 t (lent_to d.call))
-Gave (seen w) d = (d.answer ≡ Sighted w) × (d.output ≡ lent_to d.call)
-Gave ok d = (d.answer ≡ Done) × (d.output ≡ lent_to d.call)
+Gave (refused n) d = Refuses Err n d.answer × (d.output ≡ lent_to d.call)
+Gave (reply t) d = (d.answer ≡ Ok (Reply (length t))) × (d.output ≡ put 0 t (lent_to d.call))
+Gave (seen w) d = (d.answer ≡ Ok (Sighted w)) × (d.output ≡ lent_to d.call)
+Gave ok d = (d.answer ≡ Ok Done) × (d.output ≡ lent_to d.call)
 
 -- one after the other
 unfoldable pub GaveAll : List RuleAnswer → List Deed → Type 0

@@ -1,13 +1,14 @@
 -- An exchange: the host's request, handed to the box, and its reply, handed back to the host. Assumes nothing.
-use Rattle.std.specs.Prelude.{ℕ, ◌+◌, ◌<◌, ◌≡◌, true, List, ◌∷◌, length, take, set}
+use Rattle.std.specs.Prelude.{ℕ, ◌+◌, ◌<◌, ◌≡◌, true, List, ◌∷◌, length, take, set, Result, Ok}
 use Rattle.table.specs.Entries.{desks}
 use Rattle.rules.specs.Config.{block_size}
 use Rattle.octets.specs.Parts.{part}
 use Rattle.octets.specs.Each.{All, Octet}
+use Rattle.frame.specs.declared.Refusal.{Refusal}
 use Rattle.frame.specs.Shape.{shape_of}
 use Rattle.frame.specs.Finding.{found}
 use Rattle.frame.specs.Sealed.{frame_of}
-use Rattle.rules.specs.Command.{Result, answered}
+use Rattle.rules.specs.Command.{Result as Ruling, answered}
 use Rattle.rules.specs.Box.{desk_at}
 use Rattle.store.specs.View.{view}
 use Rattle.store.specs.Sound.{sound}
@@ -25,7 +26,7 @@ pub record Carriable (q : Request) : Type 0 where
   pub fields : fields_hold q.ask ≡ true
 
 -- what the rules have the desk answer that a store says
-abbrev pub ruled_by : Request → List ℕ → Result
+abbrev pub ruled_by : Request → List ℕ → Ruling
 ruled_by q s = answered q.kind (desk_at (view s) q.desk) (control_of q.ask) (data_for q)
 
 -- the reply that carries it
@@ -42,8 +43,8 @@ told_to q s = let r = ruled_by q s in record { status = r.status; start = (shape
 
 -- the box replied; what stands at the start of the output is that reply; the host accepts it and reads status and data as they were sent;
 -- and the store says the desk that the request's rule gives, and the other seven as before
-pub record ReadBack (q : Request) (s : List ℕ) (a : Answer) (s' out' : List ℕ) : Type 0 where
-  pub answer-is : a ≡ Reply (length (reply_to q s))
+pub record ReadBack (q : Request) (s : List ℕ) (a : Result Answer Refusal) (s' out' : List ℕ) : Type 0 where
+  pub answer-is : a ≡ Ok (Reply (length (reply_to q s)))
   pub there : taken q s out' ≡ reply_to q s
   pub read_is : read_as q (taken q s out') ≡ found (told_to q s)
   pub data_is : part (told_to q s).start (told_to q s).len (taken q s out') ≡ (ruled_by q s).sent

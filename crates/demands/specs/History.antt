@@ -1,6 +1,7 @@
 -- Histories of calls: a fresh store, and any calls after it, each related to its store before and after by the promise of `depot`.
 -- Assumes nothing.
-use Rattle.std.specs.Prelude.{ℕ, ◌≡◌, true, List, [], ◌∷◌, map, length}
+use Rattle.std.specs.Prelude.{ℕ, ◌≡◌, true, List, [], ◌∷◌, map, length, Result, Ok}
+use Rattle.frame.specs.declared.Refusal.{Refusal}
 use Rattle.octets.specs.Tests.{all_of}
 use Rattle.rules.specs.Box.{Event}
 use Rattle.rules.specs.Legal.{fitting}
@@ -28,7 +29,7 @@ lent_to tick = []
 -- a call that was made: what it answered, and what its output then held
 pub record Deed : Type 0 where
   pub call : Call
-  pub answer : Answer
+  pub answer : Result Answer Refusal
   pub output : List ℕ
 
 abbrev pub events_of : List Deed → List Event
@@ -43,6 +44,6 @@ Ran s (d ∷ ds) s'' = (s' : List ℕ) × Called (event_of d.call) s (lent_to d.
 pub record History (ds : List Deed) (s : List ℕ) : Type 0 where
   pub buffer : List ℕ
   pub fresh : List ℕ
-  pub made : Made buffer Done fresh
+  pub made : Made buffer (Ok Done) fresh
   pub typed : all_of fitting (events_of ds) ≡ true
   pub ran : Ran fresh ds s

@@ -1,4 +1,5 @@
 -- No answer is a reply longer than the reply room, and none tells more ticks than two octets hold. Assumes nothing.
+use Rattle.std.specs.Prelude.{Result}
 use Prim.Native.Nat.{ℕ, ◌≤◌}
 use mathlib.Core.Path.{◌≡◌, refl}
 use mathlib.Core.Bool.{Bool, true, false, cond}
@@ -6,6 +7,7 @@ use mathlib.Core.List.{List, ◌∷◌}
 use mathlib.Core.Option.{Option, none, some}
 use native.Mathlib.Omega.{arith}
 use lib.ListN.{length}
+use Rattle.frame.specs.declared.Refusal.{Refusal}
 use Rattle.frame.specs.Shape.{reply_room}
 use Rattle.octets.specs.Tests.{first}
 use Rattle.frame.specs.declared.Kind.{Kind}
@@ -76,13 +78,13 @@ sighting-brief n uid mask s e =
 
 -- ---- of a call's
 
-ended-short : (t : RuleAnswer) (box : Box) (s out : List ℕ) (a : Answer) (s' out' : List ℕ) → Brief t → Ended t box s out a s' out' → Short a
+ended-short : (t : RuleAnswer) (box : Box) (s out : List ℕ) (a : Result Answer Refusal) (s' out' : List ℕ) → Brief t → Ended t box s out a s' out' → Short a
 ended-short (refused n) box s out a s' out' h e = rw e.0.answer-is tt
 ended-short (reply t) box s out a s' out' h e = rw e.0 h
 ended-short (seen w) box s out a s' out' h e = rw e.0 h
 ended-short ok box s out a s' out' h e = rw e.0 tt
 
-module _ (s out : List ℕ) (a : Answer) (s' out' : List ℕ) where
+module _ (s out : List ℕ) (a : Result Answer Refusal) (s' out' : List ℕ) where
   called-short : (e : Event) → (sound s ≡ true → Brief (step (view s) e).answer) → Called e s out a s' out' → Short a
   called-short e h c = ended-short (step_on s e).answer (step_on s e).box s out a s' out' (on-brief s e h) c.ended
 

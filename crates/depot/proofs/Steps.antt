@@ -1,10 +1,12 @@
 -- On a sound store a call leaves a sound store that says the rules' next box; a fresh store says the fresh box. Assumes nothing.
+use Rattle.std.specs.Prelude.{Result, Ok}
 use Prim.Native.Nat.{ℕ}
 use mathlib.Core.Path.{◌≡◌, refl, sym, ap, ◌∙◌}
 use mathlib.Core.Bool.{true}
 use mathlib.Core.List.{List}
 use mathlib.Core.Option.{Option, none, some}
 use native.Mathlib.Omega.{arith}
+use Rattle.frame.specs.declared.Refusal.{Refusal}
 use Rattle.octets.specs.Tests.{first}
 use Rattle.rules.specs.Box.{Box, fresh_box, desk_at, Event, frame, sighting, tick, Answer as RuleAnswer, refused, reply, seen, ok, AtDesk, request, served, sighted, placed, unless_refused, frame_refusals, sighting_refusals, step}
 use Rattle.store.specs.View.{view}
@@ -44,7 +46,7 @@ pub record Left (box : Box) (s' : List ℕ) : Type 0 where
 pub next-left : (box : Box) (s s' : List ℕ) → Next box s s' → Left box s'
 next-left box s s' p = record { still = p.still; says = p.says }
 
-module _ (s out : List ℕ) (a : Answer) (s' out' : List ℕ) (q : sound s ≡ true) where
+module _ (s out : List ℕ) (a : Result Answer Refusal) (s' out' : List ℕ) (q : sound s ≡ true) where
   by_answer : (t : RuleAnswer) (box : Box) → ((r : ℕ) → t ≡ refused r → box ≡ view s) → Ended t box s out a s' out' → Left box s'
   by_answer (refused r) box keep e = record { still = ap sound e.1.0 ∙ q; says = ap view e.1.0 ∙ sym (keep r refl) }
   by_answer (reply t) box keep e = next-left box s s' e.2
@@ -61,12 +63,12 @@ module _ (s out : List ℕ) (a : Answer) (s' out' : List ℕ) (q : sound s ≡ t
 
 -- ---- a fresh store
 
-fresh-is : (buffer s : List ℕ) → Made buffer Done s → s ≡ fresh_store
+fresh-is : (buffer s : List ℕ) → Made buffer (Ok Done) s → s ≡ fresh_store
 fresh-is buffer s m = go (first (fresh_refusals buffer)) m.made
   where
-    go : (o : Option ℕ) → MadeOf o buffer Done s → s ≡ fresh_store
+    go : (o : Option ℕ) → MadeOf o buffer (Ok Done) s → s ≡ fresh_store
     go none x = x.1
     go (some n) x = let z : ◌≡◌ {A = ℕ} 0 1 = cc x.0.answer-is in absurd (omega arith)
 
-pub fresh-left : (buffer s : List ℕ) → Made buffer Done s → Left fresh_box s
+pub fresh-left : (buffer s : List ℕ) → Made buffer (Ok Done) s → Left fresh_box s
 fresh-left buffer s m = let e = fresh-is buffer s m in record { still = ap sound e ∙ fresh-sound; says = ap view e ∙ fresh-view }

@@ -1,6 +1,7 @@
 -- The write condition, of the call itself: a frame with 0x81 that no test refuses (frame, checksum, desk) is answered 0x00 exactly when
 -- length, login, block and block contents are legal and it is no password into RAM; the store then says the desk with that block written,
 -- and else what it said before. Assumes nothing.
+use Rattle.std.specs.Prelude.{Result, Ok}
 use mathlib.Core.Path.{◌≡◌, sym, ap, subst, ◌∙◌}
 use Prim.Native.Nat.{ℕ}
 use mathlib.Core.Bool.{Bool, true, false, cond}
@@ -10,6 +11,7 @@ use lib.ListN.{length, set}
 use lib.Seq.{set-get_or}
 use Rattle.octets.specs.Tests.{first}
 use Rattle.octets.specs.Parts.{put}
+use Rattle.frame.specs.declared.Refusal.{Refusal}
 use Rattle.frame.specs.Judged.{data_of}
 use Rattle.frame.specs.Sealed.{frame_of}
 use Rattle.rules.specs.Desk.{Desk, fresh_desk}
@@ -27,7 +29,7 @@ use Rattle.events.specs.declared.Answer.{Answer}
 use Rattle.events.specs.declared.Answer.TheVariants.{Reply}
 use Rattle.depot.specs.Called.{step_on, Called}
 
-module _ (f s out : List ℕ) (a : Answer) (s' out' : List ℕ) (called : Called (frame f (length out)) s out a s' out') (e : sound s ≡ true)
+module _ (f s out : List ℕ) (a : Result Answer Refusal) (s' out' : List ℕ) (called : Called (frame f (length out)) s out a s' out') (e : sound s ≡ true)
     (passed : first (frame_refusals f (length out)) ≡ none) (write : (request f).control ≡ 0x81) where
   abbrev desk : Desk
   desk = desk_at (view s) (request f).address
@@ -39,7 +41,7 @@ module _ (f s out : List ℕ) (a : Answer) (s' out' : List ℕ) (called : Called
   abbrev told : ℕ → List ℕ
   told status = frame_of (request f).kind (request f).address (request f).control (status ∷ [])
 
-  pub accepted : write_legal desk body ≡ true → (a ≡ Reply (length (told 0x00))) × (out' ≡ put 0 (told 0x00) out) × (view s' ≡ set (view s) (request f).address (written_desk body desk))
+  pub accepted : write_legal desk body ≡ true → (a ≡ Ok (Reply (length (told 0x00)))) × (out' ≡ put 0 (told 0x00) out) × (view s' ≡ set (view s) (request f).address (written_desk body desk))
   unfolding step_on step unless_refused placed served done result
   accepted legal =
       let is : answered (request f).kind desk (request f).control body ≡ done (written_desk body desk) =
@@ -47,7 +49,7 @@ module _ (f s out : List ℕ) (a : Answer) (s' out' : List ℕ) (called : Called
       let t = rw (e, passed, is) at called.ended in
       (t.0, t.1, t.2.says)
 
-  pub turned : write_legal desk body ≡ false → (status : ℕ) × (status ≡ 0x00 → ⊥) × (a ≡ Reply (length (told status))) × (out' ≡ put 0 (told status) out) × (view s' ≡ view s)
+  pub turned : write_legal desk body ≡ false → (status : ℕ) × (status ≡ 0x00 → ⊥) × (a ≡ Ok (Reply (length (told status)))) × (out' ≡ put 0 (told status) out) × (view s' ≡ view s)
   unfolding step_on step unless_refused placed served desk_at
   turned illegal =
       let r = answered (request f).kind desk (request f).control body in
@@ -58,7 +60,7 @@ module _ (f s out : List ℕ) (a : Answer) (s' out' : List ℕ) (called : Called
 
   -- document 02 (ix): a password into RAM, of the listed length and from who is logged in
   pub protected : sized_for (OnRow WriteBlock) body ≡ true → desk.logged_in ≡ true → names_one (adr_of body) ≡ true → password_in_ram (adr_of body) ≡ true
-      → (a ≡ Reply (length (told 0x16))) × (out' ≡ put 0 (told 0x16) out) × (view s' ≡ view s)
+      → (a ≡ Ok (Reply (length (told 0x16)))) × (out' ≡ put 0 (told 0x16) out) × (view s' ≡ view s)
   unfolding step_on step unless_refused placed served desk_at result
   protected size login one ram =
       let is : answered (request f).kind desk (request f).control body ≡ result 0x16 [] desk =

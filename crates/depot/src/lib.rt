@@ -12,14 +12,14 @@ use frame::Refusal;
 
 // Makes a fresh store of a buffer of the right size.
 #[tactic(auto, using(crate::proofs::Making::refused_by_size, crate::proofs::Making::made_by_size))]
-pub fn fresh(store: &mut [u8]) -> Answer
+pub fn fresh(store: &mut [u8]) -> Result<Answer, Refusal>
     ensures { Made store.old result store.new }
 {
     if store.len() != store::SIZE {
-        return Answer::Refused(Refusal::Unsound);
+        return Err(Refusal::Unsound);
     }
     fresh::make(store);
-    Answer::Done
+    Ok(Answer::Done)
 }
 
 // A store that is not sound is refused before any other test.
@@ -30,41 +30,41 @@ fn fit(store: &[u8]) -> bool
 }
 
 // Whether a store is sound: one that was kept in a file, say. It only reads.
-pub fn test(store: &[u8]) -> Answer
+pub fn test(store: &[u8]) -> Result<Answer, Refusal>
     ensures { Tested store.now result }
 {
     if fit(store) {
-        return Answer::Done;
+        return Ok(Answer::Done);
     }
-    Answer::Refused(Refusal::Unsound)
+    Err(Refusal::Unsound)
 }
 
 // A frame arrives.
-pub fn frame(store: &mut [u8], frame: &[u8], out: &mut [u8]) -> Answer
+pub fn frame(store: &mut [u8], frame: &[u8], out: &mut [u8]) -> Result<Answer, Refusal>
     ensures { Called (Event.frame frame.now (length out.old)) store.old out.old result store.new out.new }
 {
     if !fit(store) {
-        return Answer::Refused(Refusal::Unsound);
+        return Err(Refusal::Unsound);
     }
     events::frame(store, frame, out)
 }
 
 // A tag is sighted at a desk.
-pub fn sighting(store: &mut [u8], desk: u64, uid: u64, mask: u8) -> Answer
+pub fn sighting(store: &mut [u8], desk: u64, uid: u64, mask: u8) -> Result<Answer, Refusal>
     ensures { Called (Event.sighting desk uid mask) store.old [] result store.new [] }
 {
     if !fit(store) {
-        return Answer::Refused(Refusal::Unsound);
+        return Err(Refusal::Unsound);
     }
     events::sighting(store, desk, uid, mask)
 }
 
 // A tick of 100 ms passes for all desks.
-pub fn tick(store: &mut [u8]) -> Answer
+pub fn tick(store: &mut [u8]) -> Result<Answer, Refusal>
     ensures { Called Event.tick store.old [] result store.new [] }
 {
     if !fit(store) {
-        return Answer::Refused(Refusal::Unsound);
+        return Err(Refusal::Unsound);
     }
     events::tick(store)
 }

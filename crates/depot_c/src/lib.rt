@@ -1,24 +1,35 @@
 // The box's calls for C and Rust: numbers and lent octets go in, a number comes back. A refused call writes nothing.
 #![tactic(auto)]
 
-ghost use Rattle.std.specs.Prelude.{◌≡◌, ◌<◌, ◌^◌, [], length};
+ghost use Rattle.std.specs.Prelude.{◌≡◌, ◌<◌, ◌^◌, [], length, Ok};
 ghost use Rattle.rules.specs.Box.{Event};
 ghost use Rattle.codes.specs.Codes.{octet_of};
 ghost use Rattle.depot_c.specs.Coded.{code_of, CalledAs, MadeAs, TestedAs};
 
 use codes::{WRITTEN, octet_of, seen_code};
 use events::Answer;
+use frame::Refusal;
+
+// The number of an answer that is no refusal.
+fn told_code(a: Answer) -> u64
+    requires { code_of (Ok a) < 2 ^ 64 }
+    ensures { result ≡ code_of (Ok a) }
+{
+    match a {
+        Answer::Done => 0,
+        Answer::Sighted(w) => seen_code(w),
+        Answer::Reply(n) => WRITTEN + n as u64,
+    }
+}
 
 // The number of an answer.
-fn answer_code(a: Answer) -> u64
+fn answer_code(a: Result<Answer, Refusal>) -> u64
     requires { code_of a < 2 ^ 64 }
     ensures { result ≡ code_of a }
 {
     match a {
-        Answer::Done => 0,
-        Answer::Refused(r) => r.number() as u64,
-        Answer::Sighted(w) => seen_code(w),
-        Answer::Reply(n) => WRITTEN + n as u64,
+        Ok(told) => told_code(told),
+        Err(r) => r.number() as u64,
     }
 }
 

@@ -6,7 +6,7 @@ use mathlib.Core.Logic.{inr}
 use mathlib.Core.List.{List, [], ◌∷◌, ◌++◌}
 use native.Mathlib.Nat.{pow-suc, div-lt_iff_lt-mul}
 use native.Mathlib.Omega.{arith}
-use borrow.Author.Tests.{lt-ltb, le-ltb, ltb-true, ltb-false}
+use borrow.Author.Tests.{ltb-true, ltb-false}
 use lib.Dec.{ltb, lit<}
 use lib.ListN.{length, set, length-append}
 use Rattle.octets.specs.Parts.{put}
@@ -20,27 +20,6 @@ unfolding decimal_of places_of last_digits
 samples = (refl, refl, refl, refl, refl)
 
 -- ---- how many digits
-
-module _ (n : ℕ) where
-  pub one_place : n < 10 → 1 ≡ places_of n
-  unfolding places_of
-  one_place h = rw (lt-ltb n 10 h)
-
-  pub two-places : 10 ≤ n → n < 100 → 2 ≡ places_of n
-  unfolding places_of
-  two-places l h = rw (le-ltb n 10 l, lt-ltb n 100 h)
-
-  pub three-places : 100 ≤ n → n < 1000 → 3 ≡ places_of n
-  unfolding places_of
-  three-places l h = rw (le-ltb n 10 (omega arith), le-ltb n 100 l, lt-ltb n 1000 h)
-
-  pub four-places : 1000 ≤ n → n < 10000 → 4 ≡ places_of n
-  unfolding places_of
-  four-places l h = rw (le-ltb n 10 (omega arith), le-ltb n 100 (omega arith), le-ltb n 1000 l, lt-ltb n 10000 h)
-
-  pub five-places : 10000 ≤ n → 5 ≡ places_of n
-  unfolding places_of
-  five-places l = rw (le-ltb n 10 (omega arith), le-ltb n 100 (omega arith), le-ltb n 1000 (omega arith), le-ltb n 10000 l)
 
 pub places-most : (n : ℕ) → places_of n ≤ 5
 unfolding places_of

@@ -1,24 +1,15 @@
 -- Hex digits, an octet at a time. Assumes nothing.
-use Prim.Native.Nat.{ℕ, ◌+◌, ◌*◌, ◌/◌, ◌%◌, ◌≤◌, ◌<◌}
+use Prim.Native.Nat.{ℕ, ◌+◌, ◌*◌, ◌/◌, ◌%◌, ◌<◌}
 use mathlib.Core.Path.{◌≡◌, refl, sym, ◌∙◌}
 use mathlib.Core.List.{List, [], ◌∷◌, ◌++◌}
 use native.Mathlib.Numerals.{add-one}
 use native.Mathlib.Omega.{arith}
-use borrow.Author.Tests.{lt-ltb, le-ltb}
 use lib.ListN.{length, get_or, set, take}
 use lib.Seq.{take-suc, length-take-le}
 use Rattle.octets.specs.Parts.{put}
 use Rattle.octets.proofs.Puts.{put-append}
 use Rattle.octets.proofs.Joins.{put_two}
 use Rattle.rules.specs.Line.{digit, hex}
-
-pub digit_low : (n : ℕ) → n < 10 → digit n ≡ 0x30 + n
-unfolding digit
-digit_low n h = rw (lt-ltb n 10 h)
-
-pub digit-high : (n : ℕ) → 10 ≤ n → digit n ≡ 0x37 + n
-unfolding digit
-digit-high n h = rw (le-ltb n 10 h)
 
 pub hex-length : (s : List ℕ) → length (hex s) ≡ 2 * length s
 unfolding hex

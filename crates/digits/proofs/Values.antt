@@ -5,81 +5,33 @@ use mathlib.Core.Bool.{Bool, true, false, ◌&&◌}
 use mathlib.Core.List.{List, [], ◌∷◌, ◌++◌}
 use native.Mathlib.Decide.{dec_lt}
 use native.Mathlib.Nat.{zero-add}
-use native.Mathlib.Numerals.{add-one}
 use native.Mathlib.Omega.{arith}
-use borrow.Author.Tests.{lt-leb, le-leb, leb-true}
-use lib.ListN.{length, get_or, take, drop, set, length-drop, drop_of_length-le}
-use lib.Dec.{leb}
-use lib.Seq.{drop-cons, take_all}
+use borrow.Author.Tests.{leb-true}
+use lib.ListN.{length, get_or, take, drop, set, length-drop}
+use lib.Seq.{take_all}
+use Rattle.std.specs.List.{list_all}
 use Rattle.octets.specs.Tests.{all_of}
 use Rattle.octets.specs.Parts.{put}
 use Rattle.octets.proofs.Tests.{both}
 use Rattle.octets.proofs.Puts.{put-more}
-use Rattle.digits.specs.Digits.{between, is_hex, value_of, octets_of}
+use Rattle.digits.specs.Digits.{between, value_of, octets_of}
 
 -- ---- a digit
 
-module _ (low high c : ℕ) where
-  pub below : c < low → false ≡ between low high c
-  unfolding between
-  below h = rw (lt-leb low c h)
+pub bounds : (low high c : ℕ) → between low high c ≡ true → (low ≤ c) × (c ≤ high)
+unfolding between
+bounds low high c e = let b = both _ _ e in (leb-true low c b.0, leb-true c high b.1)
 
-  pub from : low ≤ c → leb c high ≡ between low high c
-  unfolding between
-  from h = rw (le-leb low c h)
+-- ---- a test of each
 
-  pub bounds : between low high c ≡ true → (low ≤ c) × (c ≤ high)
-  unfolding between
-  bounds e = let b = both _ _ e in (leb-true low c b.0, leb-true c high b.1)
-
-module _ (c : ℕ) where
-  pub decimal-hex : between 0x30 0x39 c ≡ true → true ≡ is_hex c
-  unfolding is_hex
-  decimal-hex e = rw e
-
-  pub decimal-value : between 0x30 0x39 c ≡ true → (c - 0x30 ≡ value_of c) × (c - 0x30 < 16)
-  unfolding value_of
-  decimal-value e = (rw e, omega (arith, bounds 0x30 0x39 c e))
-
-  module _ (no : between 0x30 0x39 c ≡ false) where
-    pub capital-hex : between 0x41 0x46 c ≡ true → true ≡ is_hex c
-    unfolding is_hex
-    capital-hex e = rw (no, e)
-
-    pub capital-value : between 0x41 0x46 c ≡ true → (c - 0x37 ≡ value_of c) × (c - 0x37 < 16)
-    unfolding value_of
-    capital-value e = (rw (no, e), omega (arith, bounds 0x41 0x46 c e))
-
-    module _ (nor : between 0x41 0x46 c ≡ false) where
-      pub small-hex : between 0x61 0x66 c ≡ is_hex c
-      unfolding is_hex
-      small-hex = rw (no, nor)
-
-      pub small-value : between 0x61 0x66 c ≡ true → (c - 0x57 ≡ value_of c) × (c - 0x57 < 16)
-      unfolding value_of
-      small-value e = (rw (no, nor, e), omega (arith, bounds 0x61 0x66 c e))
-
-      pub no_value : between 0x61 0x66 c ≡ false → 0 ≡ value_of c
-      unfolding value_of
-      no_value e = rw (no, nor, e)
-
--- ---- a test of each, from the first on
-
-module _ (f : ℕ → Bool) (s : List ℕ) (i : ℕ) (so : all_of f s ≡ all_of f (drop i s)) where
-  pub all_end : length s ≤ i → true ≡ all_of f s
-  unfolding all_of
-  all_end h = sym (so ∙ ap (all_of f) (drop_of_length-le s {i = i} h))
-
-  module _ (less : i < length s) where
-    next : all_of f s ≡ f (get_or s i 0) && all_of f (drop (i + 1) s)
-    unfolding all_of
-    next = so ∙ ap (all_of f) (drop-cons s i 0 less ∙ ap (λ (k : ℕ). get_or s i 0 ∷ drop k s) (sym (add-one i)))
-
-    pub all-stop : f (get_or s i 0) ≡ false → false ≡ all_of f s
-    all-stop e = sym (next ∙ rw e)
-
-    pub all_go : f (get_or s i 0) ≡ true → all_of f s ≡ all_of f (drop (i + 1) s)
-    all_go e = next ∙ rw e
+-- as std's test of each says it
+pub all_from : (f : ℕ → Bool) (s : List ℕ) (r : Bool) → r ≡ list_all f s → r ≡ all_of f s
+unfolding all_of
+all_from f s r e = e ∙ same s
+  where
+    same : (s : List ℕ) → list_all f s ≡ all_of f s
+    same [] = refl
+    same (x ∷ s) = ap (λ (b : Bool). f x && b) (same s)
 
 pub all_snoc : (f : ℕ → Bool) (s : List ℕ) (c : ℕ) → all_of f (s ++ (c ∷ [])) ≡ all_of f s && f c
 unfolding all_of

@@ -4,19 +4,17 @@ ghost use Rattle.octets.specs.Parts.{put};
 ghost use Rattle.digits.specs.Digits.{places_of, decimal_of};
 
 // How many decimal digits a number has.
+#[tactic(auto, unfolding(crate::specs::Digits::places_of))]
 fn places(n: u16) -> usize
-    ensures { result ≡ places_of n }
+    ensures { (result ≡ places_of n) × (result ≤ 5) }
 {
-    if n < 10 {
-        return 1;
+    match n {
+        0..10 => 1,
+        10..100 => 2,
+        100..1000 => 3,
+        1000..10000 => 4,
+        _ => 5,
     }
-    if n < 100 {
-        return 2;
-    }
-    if n < 1000 {
-        return 3;
-    }
-    if n < 10000 { 4 } else { 5 }
 }
 
 // Writes a number in decimal from a place on, beginning with its last digit, and says how many digits it has.
@@ -26,9 +24,7 @@ pub fn put_decimal(n: u16, out: &mut [u8], at: usize) -> usize
 {
     let k = places(n);
     let mut left = n;
-    let mut i = k;
-    while 0 < i {
-        i -= 1;
+    for i in (0..k).rev() {
         out[at + i] = b'0' + (left % 10) as u8;
         left /= 10;
     }

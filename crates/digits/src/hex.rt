@@ -3,7 +3,8 @@ ghost use Rattle.std.specs.Prelude.{◌≡◌, ◌+◌, ◌*◌, ◌≤◌, ◌<
 ghost use Rattle.octets.specs.Parts.{put};
 ghost use Rattle.rules.specs.Line.{digit, hex};
 
-// A capital hex digit.
+// A capital hex digit; the library's `from_digit` gives small ones.
+#[tactic(auto, unfolding(rules::specs::Line::digit))]
 fn digit_of(n: u8) -> u8
     requires { n < 16 }
     ensures { result ≡ digit n }
@@ -16,10 +17,8 @@ pub fn put_hex(s: &[u8], out: &mut [u8], at: usize)
     requires { at + 2 * length s.now ≤ length out.old }
     ensures { out.new ≡ put at (hex s.now) out.old }
 {
-    let mut i: usize = 0;
-    while i < s.len() {
+    for i in 0..s.len() {
         out[at + 2 * i] = digit_of(s[i] / 16);
         out[at + 2 * i + 1] = digit_of(s[i] % 16);
-        i += 1;
     }
 }

@@ -10,20 +10,18 @@ ghost use Rattle.rows.specs.Change.{Fit, Change};
 ghost use Rattle.doings.specs.Doing.{done_by};
 ghost use Rattle.doings.specs.Row.{midnight_row, closed_row, marked_row, due_row, stepped_row, ticked_row, cleared_row, system_row};
 
+use rows::DeskRow;
 use store::{DUE, MARK, TAB_START, TIMER};
 
 // The timer is zero.
-fn midnight(row: &mut [u8])
-    requires { length row.old ≡ row_width }
+fn midnight(row: &mut DeskRow)
     ensures { row.new ≡ midnight_row row.old }
 {
-    let zero: [u8; 4] = [0; 4];
-    rows::set_timer(row, &zero);
+    rows::set_timer(row, &[0; 4]);
 }
 
 // The mark falls, nothing is due, TAB-START is start.
-fn close_table(row: &mut [u8], start: u8)
-    requires { length row.old ≡ row_width }
+fn close_table(row: &mut DeskRow, start: u8)
     ensures { row.new ≡ closed_row start row.old }
 {
     row[MARK] = 0;
@@ -32,35 +30,31 @@ fn close_table(row: &mut [u8], start: u8)
 }
 
 // The overflow mark is set.
-fn set_mark(row: &mut [u8])
-    requires { length row.old ≡ row_width }
+fn set_mark(row: &mut DeskRow)
     ensures { row.new ≡ marked_row row.old }
 {
     row[MARK] = 1;
 }
 
 // So many records are due to be removed.
-fn set_due(row: &mut [u8], n: u8)
-    requires { length row.old ≡ row_width }
+fn set_due(row: &mut DeskRow, n: u8)
     ensures { row.new ≡ due_row n row.old }
 {
     row[DUE] = n;
 }
 
 // The timer is advanced.
-fn tick_timer(row: &mut [u8])
-    requires { length row.old ≡ row_width }
+fn tick_timer(row: &mut DeskRow)
     ensures { row.new ≡ stepped_row row.old }
 {
-    let t = timer::read(row, TIMER);
-    let u = timer::after_tick(t.hour, t.minute, t.ms);
-    let d = timer::octets_of(u);
-    rows::set_timer(row, &d);
+    let mut t = timer::read(row, TIMER);
+    timer::tick(&mut t);
+    rows::set_timer(row, &timer::octets_of(t));
 }
 
 // A tick of the locks and the timer.
-fn tick(row: &mut [u8])
-    requires { (length row.old ≡ row_width) × (get_or row.old count_at 0 ≤ most_locks) }
+fn tick(row: &mut DeskRow)
+    requires { get_or row.old count_at 0 ≤ most_locks }
     ensures { row.new ≡ ticked_row row.old }
 {
     rows::tick_locks(row);
@@ -68,8 +62,7 @@ fn tick(row: &mut [u8])
 }
 
 // No records are marked, due or counted, and no locks stand.
-fn clear(row: &mut [u8])
-    requires { length row.old ≡ row_width }
+fn clear(row: &mut DeskRow)
     ensures { row.new ≡ cleared_row row.old }
 {
     close_table(row, 0);
@@ -77,8 +70,7 @@ fn clear(row: &mut [u8])
 }
 
 // A restart, the timer zero, no records marked, due or counted.
-fn restart_all(row: &mut [u8])
-    requires { length row.old ≡ row_width }
+fn restart_all(row: &mut DeskRow)
     ensures { row.new ≡ system_row row.old }
 {
     rows::restart(row);
@@ -86,7 +78,8 @@ fn restart_all(row: &mut [u8])
     midnight(row);
 }
 
-// What is done to a row by sightings, by ticks and by the commands that concern records too.
+// What is done to a row by sightings, by ticks and by the commands that concern records too. An enum and no closure: `done_by` says what each
+// comes to, and callers owe that a legal desk comes of it.
 #[derive(Clone, Copy)]
 pub enum Doing {
     // The overflow mark is set.
@@ -104,8 +97,8 @@ pub enum Doing {
     Tick,
 }
 
-// Does it to the row of a desk.
-pub fn act(row: &mut [u8], what: Doing)
+// Does it to a row.
+fn act_on(row: &mut DeskRow, what: Doing)
     requires { Fit row.old × (get_or row.old count_at 0 ≤ most_locks) }
     ensures { Change (done_by what) row.old row.new }
 {
@@ -118,4 +111,15 @@ pub fn act(row: &mut [u8], what: Doing)
         Doing::Lock(uid) => rows::add_lock(row, uid),
         Doing::Tick => tick(row),
     }
+}
+
+// Does it to the octets of the store that are the row of a desk.
+pub fn act(row: &mut [u8], what: Doing)
+    requires { Fit row.old × (get_or row.old count_at 0 ≤ most_locks) }
+    ensures { Change (done_by what) row.old row.new }
+{
+    let Some(row) = row.as_mut_array() else {
+        unreachable!()
+    };
+    act_on(row, what);
 }

@@ -9,6 +9,7 @@ ghost use Rattle.effects.specs.Obeyed.{Allowed, does, RowQuiet, RowObeyed};
 
 use crate::{Reply, plain};
 use frame::{Kind, Way};
+use rows::DeskRow;
 use rules::{BLOCK, MEMORY};
 use ruling::adr::{all_blocks, block_of, in_eeprom};
 use store::{EEPROM, RAM};
@@ -27,7 +28,7 @@ pub fn block<'a>(ram: &'a [u8], eeprom: &'a [u8], loc: bool, k: usize) -> &'a [u
 }
 
 // The same of a row, which has both memories.
-fn named(row: &[u8], loc: bool, k: usize) -> &[u8]
+fn named(row: &DeskRow, loc: bool, k: usize) -> &[u8]
     requires { Fit row.now × (k < block_count) }
     ensures { result.now ≡ block_at k (cond loc (field row.now eeprom_field) (field row.now ram_field)) }
 {
@@ -40,7 +41,7 @@ fn named(row: &[u8], loc: bool, k: usize) -> &[u8]
 }
 
 // 0x80: the fourteen bytes of the named block.
-pub fn read(row: &[u8], kind: Kind, body: &[u8], out: &mut [u8]) -> Reply
+pub fn read(row: &DeskRow, kind: Kind, body: &[u8], out: &mut [u8]) -> Reply
     requires { Fit row.now × Allowed RowCommand.ReadBlock body.now × (reply_room ≤ length out.old) }
     ensures { RowObeyed kind (does RowCommand.ReadBlock body.now) result row.now row.now out.old out.new }
 {
@@ -54,7 +55,7 @@ pub fn read(row: &[u8], kind: Kind, body: &[u8], out: &mut [u8]) -> Reply
 }
 
 // 0x81: the named block takes fourteen bytes.
-pub fn write(row: &mut [u8], body: &[u8]) -> Reply
+pub fn write(row: &mut DeskRow, body: &[u8]) -> Reply
     requires { Fit row.old × Allowed RowCommand.WriteBlock body.now }
     ensures { RowQuiet (does RowCommand.WriteBlock body.now) result row.old row.new }
 {
@@ -64,7 +65,7 @@ pub fn write(row: &mut [u8], body: &[u8]) -> Reply
 }
 
 // 0x82: the named block, or all, from RAM to EEPROM.
-pub fn save(row: &mut [u8], body: &[u8]) -> Reply
+pub fn save(row: &mut DeskRow, body: &[u8]) -> Reply
     requires { Fit row.old × Allowed RowCommand.SaveBlocks body.now }
     ensures { RowQuiet (does RowCommand.SaveBlocks body.now) result row.old row.new }
 {
@@ -78,7 +79,7 @@ pub fn save(row: &mut [u8], body: &[u8]) -> Reply
 }
 
 // 0x83: the named block, or all, to defaults in the memory that LOC names.
-pub fn restore(row: &mut [u8], body: &[u8]) -> Reply
+pub fn restore(row: &mut DeskRow, body: &[u8]) -> Reply
     requires { Fit row.old × Allowed RowCommand.RestoreBlocks body.now }
     ensures { RowQuiet (does RowCommand.RestoreBlocks body.now) result row.old row.new }
 {

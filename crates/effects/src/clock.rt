@@ -7,10 +7,11 @@ ghost use Rattle.effects.specs.Obeyed.{Allowed, does, RowQuiet, RowObeyed};
 
 use crate::{Reply, plain};
 use frame::{Kind, Way};
+use rows::DeskRow;
 use store::{EEPROM, TIMER};
 
 // 0x63: RAM, VALID-TIME, login and locks.
-pub fn reset(row: &mut [u8]) -> Reply
+pub fn reset(row: &mut DeskRow) -> Reply
     requires { Fit row.old }
     ensures { RowQuiet (does RowCommand.Reset []) result row.old row.new }
 {
@@ -19,7 +20,7 @@ pub fn reset(row: &mut [u8]) -> Reply
 }
 
 // 0x85: the timer is set.
-pub fn set_timer(row: &mut [u8], body: &[u8]) -> Reply
+pub fn set_timer(row: &mut DeskRow, body: &[u8]) -> Reply
     requires { Fit row.old × Allowed RowCommand.SetTimer body.now }
     ensures { RowQuiet (does RowCommand.SetTimer body.now) result row.old row.new }
 {
@@ -28,7 +29,7 @@ pub fn set_timer(row: &mut [u8], body: &[u8]) -> Reply
 }
 
 // 0x86: the timer in four octets.
-pub fn send_timer(row: &[u8], kind: Kind, out: &mut [u8]) -> Reply
+pub fn send_timer(row: &DeskRow, kind: Kind, out: &mut [u8]) -> Reply
     requires { Fit row.now × (reply_room ≤ length out.old) }
     ensures { RowObeyed kind (does RowCommand.SendTimer []) result row.now row.now out.old out.new }
 {
@@ -43,7 +44,7 @@ fn login_status(equal: bool) -> u8
 }
 
 // 0xA0: logged in where the four octets are those of EEPROM block 0, else logged out.
-pub fn login(row: &mut [u8], body: &[u8]) -> Reply
+pub fn login(row: &mut DeskRow, body: &[u8]) -> Reply
     requires { Fit row.old × Allowed RowCommand.Login body.now }
     ensures { RowQuiet (does RowCommand.Login body.now) result row.old row.new }
 {

@@ -1,8 +1,6 @@
 // The listing's lines: a line is fed octet by octet, however long it is.
 #![tactic(auto)]
 
-ghost use Rattle.std.specs.Prelude.{◌≡◌, not, ◌||◌};
-ghost use Rattle.digits.specs.Digits.{is_hex};
 ghost use Rattle.feeding.specs.Feeding.{Starts, Feeds};
 
 use digits::read::is_hex;
@@ -33,36 +31,27 @@ pub fn start() -> Begun
     }
 }
 
-// Whether one of the octets so far, or this one, is no hex digit.
-fn spoilt(bad: bool, c: u8) -> bool
-    ensures { result ≡ (bad || not (is_hex c)) }
-{
-    if bad {
-        return true;
-    }
-    !is_hex(c)
-}
-
 // Feeds the next octet of a line.
 pub fn feed(state: Begun, held: &mut [u8], c: u8) -> Begun
     ensures { Feeds c state held.old result held.new }
 {
     let at = state.held;
     let odd = !state.odd;
-    let bad = spoilt(state.bad, c);
+    let bad = state.bad || !is_hex(c);
     if at < held.len() {
         held[at] = c;
-        return Begun {
+        Begun {
             held: at + 1,
-            over: state.over,
             odd,
             bad,
-        };
-    }
-    Begun {
-        held: at,
-        over: true,
-        odd,
-        bad,
+            ..state
+        }
+    } else {
+        Begun {
+            over: true,
+            odd,
+            bad,
+            ..state
+        }
     }
 }

@@ -14,12 +14,12 @@ use store::{EEPROM, HEADER, LOGIN, RAM, ROW, SIZE, USED, VALID};
 const ENTRIES_BEGIN: usize = HEADER + ROW * table::DESKS;
 
 // The offsets, as the header holds them.
-const ROWS_OFFSET: u16 = HEADER as u16;
+const ROWS_OFFSET: u64 = HEADER as u64;
 
-const ENTRIES_OFFSET: u16 = ENTRIES_BEGIN as u16;
+const ENTRIES_OFFSET: u64 = ENTRIES_BEGIN as u64;
 
 // VALID-TIME of the defaults.
-const VALID_TIME: u16 = 55;
+const VALID_TIME: u64 = 55;
 
 // The default configuration, block by block.
 const DEFAULTS: [[u8; rules::BLOCK]; rules::BLOCKS] = [
@@ -62,10 +62,8 @@ pub fn put_defaults(memory: &mut [u8])
     requires { memory_size ≤ length memory.old }
     ensures { memory.new ≡ put 0 defaults memory.old }
 {
-    let mut k: usize = 0;
-    while k < rules::BLOCKS {
+    for k in 0..rules::BLOCKS {
         put_block(memory, k, default_block(k));
-        k += 1;
     }
 }
 
@@ -82,10 +80,10 @@ fn fresh_row(row: &mut [u8])
     requires { length row.old ≡ row_width }
     ensures { row.new ≡ fresh_row }
 {
-    octets::fill(&mut row[LOGIN..ROW], 0);
+    row[LOGIN..ROW].fill(0);
     put_memory(row, RAM);
     put_memory(row, EEPROM);
-    octets::put16(row, VALID, VALID_TIME);
+    octets::put::<2>(row, VALID, VALID_TIME);
 }
 
 // Writes the header: where the rows begin, where the entries begin, and that none of these is in use.
@@ -93,9 +91,9 @@ fn put_header(s: &mut [u8])
     requires { header_size ≤ length s.old }
     ensures { s.new ≡ put 0 fresh_header s.old }
 {
-    octets::put16(s, 0, ROWS_OFFSET);
-    octets::put16(s, 2, ENTRIES_OFFSET);
-    octets::put16(s, USED, 0);
+    octets::put::<2>(s, 0, ROWS_OFFSET);
+    octets::put::<2>(s, 2, ENTRIES_OFFSET);
+    octets::put::<2>(s, USED, 0);
 }
 
 // Writes the rows behind the header.
@@ -103,11 +101,9 @@ fn put_rows(s: &mut [u8])
     requires { entries_begin ≤ length s.old }
     ensures { s.new ≡ put rows_begin (joined (replicate desks fresh_row)) s.old }
 {
-    let mut d: usize = 0;
-    while d < table::DESKS {
+    for d in 0..table::DESKS {
         let at = HEADER + ROW * d;
         fresh_row(&mut s[at..at + ROW]);
-        d += 1;
     }
 }
 
@@ -116,7 +112,7 @@ pub fn make(s: &mut [u8])
     requires { length s.old ≡ store_size }
     ensures { s.new ≡ fresh_store }
 {
-    octets::fill(&mut s[ENTRIES_BEGIN..SIZE], 0);
+    s[ENTRIES_BEGIN..SIZE].fill(0);
     put_header(s);
     put_rows(s);
 }

@@ -1,5 +1,6 @@
 -- Demand 1 of the calls for C: a number from 1 to 63 is the first refusal of the call's list that is given, and a refused call leaves every
 -- lent octet. Assumes nothing.
+use Rattle.std.specs.Prelude.{Result, Ok, Err}
 use Prim.Native.Nat.{ℕ}
 use mathlib.Core.Path.{◌≡◌, refl, sym, ap, ◌∙◌}
 use mathlib.Core.Bool.{Bool}
@@ -12,7 +13,6 @@ use Rattle.frame.specs.Refusal.{number_of}
 use Rattle.frame.specs.Finding.{finding}
 use Rattle.frame.proofs.Numbers.{refuses-number}
 use Rattle.rules.specs.declared.Seen.TheVariants.{Ignored, Lost, Recorded}
-use Rattle.rules.specs.declared.Written.{Written}
 use Rattle.rules.specs.Box.{Event}
 use Rattle.rules.proofs.Output.{wrote-refused}
 use Rattle.events.specs.declared.Answer.{Answer}
@@ -27,17 +27,17 @@ use Rattle.depot_c.specs.Coded.{code_of, CalledAs, MadeAs, TestedAs}
 use Rattle.host_c.specs.Coded.{read_code, WroteAs}
 
 -- a number of that range is a refusal's
-answer-refused : (a : Answer) (n : ℕ) → n ≡ code_of a → In refused n → (r : Refusal) × (a ≡ Answer.Refused r) × (n ≡ number_of r)
-answer-refused (Answer.Refused r) n e h = (r, refl, e)
-answer-refused (Answer.Reply k) n e h = absurd (omega (arith, h.0, h.1))
-answer-refused (Answer.Sighted (Ignored k)) n e h = absurd (omega (arith, h.0, h.1))
-answer-refused (Answer.Sighted Lost) n e h = absurd (omega (arith, h.0, h.1))
-answer-refused (Answer.Sighted Recorded) n e h = absurd (omega (arith, h.0, h.1))
-answer-refused Answer.Done n e h = absurd (omega (arith, h.0, h.1))
+answer-refused : (a : Result Answer Refusal) (n : ℕ) → n ≡ code_of a → In refused n → (r : Refusal) × (a ≡ Err r) × (n ≡ number_of r)
+answer-refused (Err r) n e h = (r, refl, e)
+answer-refused (Ok (Answer.Reply k)) n e h = absurd (omega (arith, h.0, h.1))
+answer-refused (Ok (Answer.Sighted (Ignored k))) n e h = absurd (omega (arith, h.0, h.1))
+answer-refused (Ok (Answer.Sighted Lost)) n e h = absurd (omega (arith, h.0, h.1))
+answer-refused (Ok (Answer.Sighted Recorded)) n e h = absurd (omega (arith, h.0, h.1))
+answer-refused (Ok Answer.Done) n e h = absurd (omega (arith, h.0, h.1))
 
-written-refused : (a : Written) (n : ℕ) → n ≡ written_code a → In refused n → (r : Refusal) × (a ≡ Written.Refused r) × (n ≡ number_of r)
-written-refused (Written.Refused r) n e h = (r, refl, e)
-written-refused (Written.Octets k) n e h = absurd (omega (arith, h.0, h.1))
+written-refused : (a : Result ℕ Refusal) (n : ℕ) → n ≡ written_code a → In refused n → (r : Refusal) × (a ≡ Err r) × (n ≡ number_of r)
+written-refused (Err r) n e h = (r, refl, e)
+written-refused (Ok k) n e h = absurd (omega (arith, h.0, h.1))
 
 -- ---- the box
 
@@ -51,14 +51,14 @@ called-as-harmless e s out n s' out' c h =
 pub made-as-harmless : (s : List ℕ) (n : ℕ) (s' : List ℕ) → MadeAs s n s' → In refused n → (first (fresh_refusals s) ≡ some n) × (s' ≡ s)
 made-as-harmless s n s' c h = let x = answer-refused c.answer n c.code h in go (first (fresh_refusals s)) x.0 x.1 x.2 c.made.made
   where
-    go : (o : Option ℕ) (r : Refusal) → c.answer ≡ Answer.Refused r → n ≡ number_of r → MadeOf o s c.answer s' → (o ≡ some n) × (s' ≡ s)
+    go : (o : Option ℕ) (r : Refusal) → c.answer ≡ Err r → n ≡ number_of r → MadeOf o s c.answer s' → (o ≡ some n) × (s' ≡ s)
     go none r e q m = let z : ◌≡◌ {A = ℕ} 0 1 = cc m.0 in absurd (omega arith)
     go (some k) r e q m = let same : m.0.why ≡ r = cc m.0.answer-is in (ap some (refuses-number m.0.number_is same ∙ sym q), m.1)
 
 pub tested-as-harmless : (s : List ℕ) (n : ℕ) → TestedAs s n → In refused n → first (test_refusals s) ≡ some n
 tested-as-harmless s n c h = let x = answer-refused c.answer n c.code h in go (first (test_refusals s)) x.0 x.1 x.2 c.tested.tested
   where
-    go : (o : Option ℕ) (r : Refusal) → c.answer ≡ Answer.Refused r → n ≡ number_of r → TestedOf o c.answer → o ≡ some n
+    go : (o : Option ℕ) (r : Refusal) → c.answer ≡ Err r → n ≡ number_of r → TestedOf o c.answer → o ≡ some n
     go none r e q m = let z : ◌≡◌ {A = ℕ} 0 1 = cc m in absurd (omega arith)
     go (some k) r e q m = let same : m.why ≡ r = cc m.answer-is in ap some (refuses-number m.number_is same ∙ sym q)
 

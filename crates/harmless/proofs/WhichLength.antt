@@ -1,5 +1,6 @@
 -- What an installer is told of a length (document 02, i), in the numbers for C: a number that the box's call or the reader's gives is one of
 -- the four exactly where the table gives it. Assumes nothing.
+use Rattle.std.specs.Prelude.{Result, Ok, Err}
 use Prim.Native.Nat.{ℕ, ◌≤◌}
 use mathlib.Core.Path.{◌≡◌, refl, ◌∙◌}
 use mathlib.Core.Bool.{cond, ◌&&◌}
@@ -8,6 +9,7 @@ use mathlib.Core.Option.{none, some}
 use native.Mathlib.Omega.{arith}
 use lib.Dec.{leb}
 use borrow.Author.Tests.{ne_eqb}
+use Rattle.frame.specs.declared.Refusal.{Refusal}
 use Rattle.frame.specs.declared.Way.TheVariants.{Request as ToBox, Reply as FromBox}
 use Rattle.frame.specs.Shape.{reply_room}
 use Rattle.frame.specs.Finding.{Finding, refused, found, number_in}
@@ -28,13 +30,13 @@ use Rattle.host_c.specs.Coded.{read_code}
 beyond : (n : ℕ) → 64 ≤ n → of_length (some n) ≡ none
 beyond n h = rw (ne_eqb n 3 (omega arith), ne_eqb n 31 (omega arith), ne_eqb n 32 (omega arith), ne_eqb n 33 (omega arith))
 
-answer-number : (a : Answer) (out : List ℕ) → of_length (some (code_of a)) ≡ of_length (number_heard (heard a out))
-answer-number (Answer.Refused r) out = refl
-answer-number (Answer.Reply n) out = beyond (code_of (Answer.Reply n)) (omega arith)
-answer-number (Answer.Sighted (Ignored n)) out = beyond (code_of (Answer.Sighted (Ignored n))) (omega arith)
-answer-number (Answer.Sighted Lost) out = refl
-answer-number (Answer.Sighted Recorded) out = refl
-answer-number Answer.Done out = refl
+answer-number : (a : Result Answer Refusal) (out : List ℕ) → of_length (some (code_of a)) ≡ of_length (number_heard (heard a out))
+answer-number (Err r) out = refl
+answer-number (Ok (Answer.Reply n)) out = beyond (code_of (Ok (Answer.Reply n))) (omega arith)
+answer-number (Ok (Answer.Sighted (Ignored n))) out = beyond (code_of (Ok (Answer.Sighted (Ignored n)))) (omega arith)
+answer-number (Ok (Answer.Sighted Lost)) out = refl
+answer-number (Ok (Answer.Sighted Recorded)) out = refl
+answer-number (Ok Answer.Done) out = refl
 
 pub frame-as-tells : (f : List ℕ) (room : ℕ) (s out : List ℕ) (n : ℕ) (s' out' : List ℕ) → CalledAs (frame f room) s out n s' out'
     → of_length (some n) ≡ cond (sound s && leb reply_room room) (which_of ToBox f) none

@@ -1,4 +1,5 @@
 -- The number of every answer that a call of the host side gives fits 64 bits. Assumes nothing.
+use Rattle.std.specs.Prelude.{Result}
 use Prim.Native.Nat.{ℕ, ◌^◌, ◌≤◌, ◌<◌}
 use mathlib.Core.Path.{◌≡◌, refl}
 use mathlib.Core.Bool.{Bool, false}
@@ -13,6 +14,7 @@ use Rattle.octets.specs.Numbers.{Octets}
 use Rattle.octets.specs.Each.{All}
 use Rattle.octets.proofs.Tests.{none-head, none_tail}
 use Rattle.octets.proofs.Each.{all_append, given-each}
+use Rattle.frame.specs.declared.Refusal.{Refusal}
 use Rattle.frame.specs.declared.Kind.{Kind}
 use Rattle.frame.specs.declared.Kind.TheVariants.{Standard, Advanced}
 use Rattle.frame.specs.declared.Way.TheVariants.{Reply}
@@ -20,16 +22,16 @@ use Rattle.frame.specs.Shape.{shape_of}
 use Rattle.frame.proofs.Bounds.{faults-small}
 use Rattle.frame.specs.Finding.{finding}
 use Rattle.frame.specs.Judged.{kind_of, faults, parts_of}
-use Rattle.rules.specs.declared.Written.{Written}
 use Rattle.requests.specs.declared.Request.{Request}
 use Rattle.reader.specs.declared.Told.{Told}
 use Rattle.requests.specs.Request.{request_frame}
 use Rattle.maker.specs.Maker.{maker_refusals, Requested}
 use Rattle.reader.specs.Reader.{told_of, reader_refusals, read_as}
-use Rattle.lines.specs.Lines.{line_refusals, Lined, lines_of, lines_refusals, AllLined}
+use Rattle.rules.specs.Line.{line}
+use Rattle.lines.specs.Lines.{line_refusals, lines_of, lines_refusals}
 use Rattle.codes.specs.Codes.{written_code}
 use Rattle.codes.proofs.Fits.{wrote-fits}
-use Rattle.host_c.specs.Coded.{read_code}
+use Rattle.host_c.specs.Coded.{read_code, not_long, line_tests, LineWrote, lines_tests, LinesWrote}
 
 -- ---- octets in a lent output
 
@@ -37,22 +39,23 @@ use Rattle.host_c.specs.Coded.{read_code}
 room-there : (t out : List ℕ) → length out < 2 ^ 63 → ltb (length out) (length t) ≡ false → length t < 2 ^ 63
 room-there t out h e = omega (arith, ltb-false (length out) (length t) e)
 
-pub framed-fits : (q : Request) (out : List ℕ) (a : Written) (out' : List ℕ) → length out < 2 ^ 63 → Requested q out a out' → written_code a < 2 ^ 64
+pub framed-fits : (q : Request) (out : List ℕ) (a : Result ℕ Refusal) (out' : List ℕ) → length out < 2 ^ 63 → Requested q out a out' → written_code a < 2 ^ 64
 unfolding maker_refusals
 framed-fits q out a out' h w =
     wrote-fits (first (maker_refusals q (length out))) (request_frame q) out a out'
     (λ e. room-there (request_frame q) out h (none-head 7 _ [] (none_tail 6 _ _ (none_tail 5 _ _ e)))) w
 
-pub lined-fits : (block text out : List ℕ) (a : Written) (out' : List ℕ) → length out < 2 ^ 63 → Lined block text out a out' → written_code a < 2 ^ 64
-unfolding line_refusals
-lined-fits block text out a out' h w =
-    wrote-fits (first (line_refusals block text (length out))) text out a out' (λ e. room-there text out h (none-head 7 _ [] (none_tail 6 _ _ e))) w
+pub line-fits : (block sighted out : List ℕ) (a : Result ℕ Refusal) (out' : List ℕ) → length out < 2 ^ 63 → LineWrote block sighted out a out' → written_code a < 2 ^ 64
+unfolding line_refusals not_long
+line-fits block sighted out a out' h w =
+    wrote-fits (first (line_tests block sighted out)) (line block sighted) out a out'
+    (λ e. room-there (line block sighted) out h (none-head 7 _ [] (none_tail 6 _ _ (none_tail 6 _ _ (none_tail 6 _ _ e))))) w
 
-pub all-lined-fits : (block sent out : List ℕ) (a : Written) (out' : List ℕ) → length out < 2 ^ 63 → AllLined block sent out a out' → written_code a < 2 ^ 64
-unfolding lines_refusals
-all-lined-fits block sent out a out' h w =
-    wrote-fits (first (lines_refusals block sent (length out))) (lines_of block sent) out a out'
-    (λ e. room-there (lines_of block sent) out h (none-head 7 _ [] (none_tail 6 _ _ (none_tail 6 _ _ e)))) w
+pub lines-fit : (block sent out : List ℕ) (a : Result ℕ Refusal) (out' : List ℕ) → length out < 2 ^ 63 → LinesWrote block sent out a out' → written_code a < 2 ^ 64
+unfolding lines_refusals not_long
+lines-fit block sent out a out' h w =
+    wrote-fits (first (lines_tests block sent out)) (lines_of block sent) out a out'
+    (λ e. room-there (lines_of block sent) out h (none-head 7 _ [] (none_tail 6 _ _ (none_tail 6 _ _ (none_tail 6 _ _ e))))) w
 
 -- ---- the reader
 

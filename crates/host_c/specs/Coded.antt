@@ -1,11 +1,11 @@
 -- What each call of the host side owes its reader: the number of an answer, and what every lent octet then holds. Assumes nothing.
-use Rattle.std.specs.Prelude.{ℕ, ◌+◌, ◌*◌, ◌^◌, ◌≡◌, Bool, not, List, ◌∷◌, length, eqb}
+use Rattle.std.specs.Prelude.{ℕ, ◌+◌, ◌*◌, ◌^◌, ◌≡◌, Bool, not, List, ◌∷◌, length, eqb, Result}
 use Rattle.octets.specs.Tests.{first}
+use Rattle.frame.specs.declared.Refusal.{Refusal}
 use Rattle.frame.specs.Finding.{Finding, refused, found}
 use Rattle.timer.specs.Clock.{timer_from}
 use Rattle.table.specs.Entries.{record_width}
 use Rattle.rules.specs.Config.{block_size}
-use Rattle.rules.specs.declared.Written.{Written}
 use Rattle.rules.specs.Output.{Wrote}
 use Rattle.rules.specs.Line.{line}
 use Rattle.requests.specs.declared.Request.{Request}
@@ -24,7 +24,7 @@ read_code (found t) = told.from + t.status * 2 ^ 24 + t.start * 2 ^ 16 + t.len
 
 -- octets or numbers in a lent output: the first test that is given refuses, and nothing is written; else t stands at the start
 pub record WroteAs (tests : List (ℕ × Bool)) (t out : List ℕ) (n : ℕ) (out' : List ℕ) : Type 0 where
-  pub answer : Written
+  pub answer : Result ℕ Refusal
   pub code : n ≡ written_code answer
   pub wrote : Wrote (first tests) t out answer out'
 
@@ -37,13 +37,24 @@ unfoldable pub not_long : ℕ → List ℕ → ℕ × Bool
 not_long size s = (6, not (eqb (length s) size))
 
 -- the line writer: a block of another length is refused; then what `AllLined` of the line writer refuses
+abbrev pub lines_tests : List ℕ → List ℕ → List ℕ → List (ℕ × Bool)
+lines_tests block sent out = not_long block_size block ∷ lines_refusals block sent (length out)
+
+abbrev pub LinesWrote : List ℕ → List ℕ → List ℕ → Result ℕ Refusal → List ℕ → Type 0
+LinesWrote block sent out a out' = Wrote (first (lines_tests block sent out)) (lines_of block sent) out a out'
+
 abbrev pub LinesAs : List ℕ → List ℕ → List ℕ → ℕ → List ℕ → Type 0
-LinesAs block sent out n out' = WroteAs (not_long block_size block ∷ lines_refusals block sent (length out)) (lines_of block sent) out n out'
+LinesAs block sent out n out' = WroteAs (lines_tests block sent out) (lines_of block sent) out n out'
 
 -- of one line: a record of another length is refused, then a block, then what `Lined` refuses
+abbrev pub line_tests : List ℕ → List ℕ → List ℕ → List (ℕ × Bool)
+line_tests block sighted out = not_long record_width sighted ∷ not_long block_size block ∷ line_refusals block (line block sighted) (length out)
+
+abbrev pub LineWrote : List ℕ → List ℕ → List ℕ → Result ℕ Refusal → List ℕ → Type 0
+LineWrote block sighted out a out' = Wrote (first (line_tests block sighted out)) (line block sighted) out a out'
+
 abbrev pub LineAs : List ℕ → List ℕ → List ℕ → ℕ → List ℕ → Type 0
-LineAs block sighted out n out' =
-    WroteAs (not_long record_width sighted ∷ not_long block_size block ∷ line_refusals block (line block sighted) (length out)) (line block sighted) out n out'
+LineAs block sighted out n out' = WroteAs (line_tests block sighted out) (line block sighted) out n out'
 
 -- what the data of a reply say: a block's bytes; a timer; the sizes; record i
 abbrev pub BlockAs : List ℕ → List ℕ → ℕ → List ℕ → Type 0

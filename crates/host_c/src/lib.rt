@@ -1,26 +1,26 @@
 // The host side's calls for C and Rust: numbers and lent octets go in, a number comes back. A refused call writes nothing.
 #![tactic(auto)]
 
-ghost use Rattle.std.specs.Prelude.{◌≡◌, ◌<◌, ◌^◌, length};
-ghost use Rattle.table.specs.Entries.{record_width};
-ghost use Rattle.rules.specs.Config.{block_size};
-ghost use Rattle.rules.specs.Line.{line};
-ghost use Rattle.reader.specs.Reader.{finding_of, read_as};
+ghost use Rattle.std.specs.Prelude.{◌≡◌, ◌<◌, ◌^◌, [], ◌∷◌};
+ghost use Rattle.octets.specs.Tests.{first};
+ghost use Rattle.frame.specs.Finding.{finding, verdict_of};
+ghost use Rattle.reader.specs.Reader.{read_as};
 ghost use Rattle.asking.specs.Numbers.{request_of};
-ghost use Rattle.host_c.specs.Coded.{read_code, LineAs, LinesAs, FramedAs, BlockAs, TimerAs, SizesAs, RecordAs};
+ghost use Rattle.host_c.specs.Coded.{read_code, not_long, LineWrote, LinesWrote, LineAs, LinesAs, FramedAs, BlockAs, TimerAs, SizesAs, RecordAs};
 
 use asking::request_of;
 use codes::written_code;
 use frame::Refusal;
-use reader::Reading;
-use rules::{BLOCK, Written};
+use reader::Told;
+use rules::BLOCK;
 use table::RECORD;
 
-const TOLD: u64 = 4294967296;
+const TOLD: u64 = 1 << 32;
 
 // ---- the host side
 
 // Makes a request.
+// Here and below a kind and a command by number, and the numbers a, b, c one by one: the C interface passes numbers.
 pub fn depot_make(
     kind: u64,
     desk: u64,
@@ -38,16 +38,13 @@ pub fn depot_make(
 }
 
 // The number of what the reader found.
-fn read_code(a: Reading) -> u64
-    requires { read_code (finding_of a) < 2 ^ 64 }
-    ensures { result ≡ read_code (finding_of a) }
+fn read_code(a: Result<Told, Refusal>) -> u64
+    requires { read_code (verdict_of a) < 2 ^ 64 }
+    ensures { result ≡ read_code (verdict_of a) }
 {
     match a {
-        Reading::Refused(r) => r.number() as u64,
-        Reading::Sound(t) => TOLD
-            + t.status as u64 * 16777216
-            + t.start as u64 * 65536
-            + t.len as u64,
+        Err(r) => r.number() as u64,
+        Ok(t) => TOLD + t.status as u64 * 16777216 + t.start as u64 * 65536 + t.len as u64,
     }
 }
 
@@ -70,47 +67,41 @@ pub fn depot_read(
 
 // ---- scan lines
 
-// The octets of a block, by value.
-fn block_of(s: &[u8]) -> [u8; BLOCK]
-    requires { length s.now ≡ block_size }
-    ensures { result ≡ s.now }
+// Octets of the length that they should have, by value.
+#[tactic(auto, unfolding(octets::specs::Tests::first, crate::specs::Coded::not_long))]
+fn sized<const N: usize>(s: &[u8]) -> Result<[u8; N], Refusal>
+    ensures { verdict_of result ≡ finding (first (not_long N s.now ∷ [])) s.now }
 {
-    let mut r = [0; BLOCK];
-    octets::copy_to(&mut r, 0, s);
-    r
+    <[u8; N]>::try_from(s).map_err(|_| Refusal::OutOfRange)
 }
 
-// The octets of a record, by value.
-fn record_of(s: &[u8]) -> [u8; RECORD]
-    requires { length s.now ≡ record_width }
-    ensures { result ≡ s.now }
+fn line(block: &[u8], sighted: &[u8], out: &mut [u8]) -> Result<usize, Refusal>
+    ensures { LineWrote block.now sighted.now out.old result out.new }
 {
-    let mut r = [0; RECORD];
-    octets::copy_to(&mut r, 0, s);
-    r
+    let sighted = sized::<RECORD>(sighted)?;
+    let block = sized::<BLOCK>(block)?;
+    lines::line(block, sighted, out)
 }
 
 // Writes the line of one record.
 pub fn depot_line(block: &[u8], sighted: &[u8], out: &mut [u8]) -> u64
     ensures { LineAs block.now sighted.now out.old result out.new }
 {
-    if sighted.len() != RECORD {
-        return written_code(Written::Refused(Refusal::OutOfRange));
-    }
-    if block.len() != BLOCK {
-        return written_code(Written::Refused(Refusal::OutOfRange));
-    }
-    written_code(lines::line(block_of(block), record_of(sighted), out))
+    written_code(line(block, sighted, out))
+}
+
+fn all_lines(block: &[u8], sent: &[u8], out: &mut [u8]) -> Result<usize, Refusal>
+    ensures { LinesWrote block.now sent.now out.old result out.new }
+{
+    let block = sized::<BLOCK>(block)?;
+    lines::lines(block, sent, out)
 }
 
 // Writes a line for each record that the data of a 0x22 reply carry, all or none.
 pub fn depot_lines(block: &[u8], sent: &[u8], out: &mut [u8]) -> u64
     ensures { LinesAs block.now sent.now out.old result out.new }
 {
-    if block.len() != BLOCK {
-        return written_code(Written::Refused(Refusal::OutOfRange));
-    }
-    written_code(lines::lines(block_of(block), sent, out))
+    written_code(all_lines(block, sent, out))
 }
 
 // ---- what the data of a reply say, typed

@@ -2,11 +2,12 @@
 #![tactic(auto)]
 
 ghost use Rattle.std.specs.Prelude.{◌≡◌};
-ghost use Rattle.reader.specs.Reader.{finding_of, read_as};
+ghost use Rattle.reader.specs.Reader.{read_as};
 ghost use Rattle.asking.specs.Numbers.{request_of};
 ghost use Rattle.host_c.specs.Coded.{read_code, LineAs, LinesAs, FramedAs, BlockAs, TimerAs, SizesAs, RecordAs};
 
 // Makes a request.
+// Numbers here and below, and a function over each call of host_c: the C interface passes numbers, and a crate is a library or an archive.
 #[unsafe(no_mangle)]
 pub extern "C" fn depot_make(
     kind: u64,

@@ -4,7 +4,7 @@ use crate::tell;
 use events::Answer;
 use reader::Told;
 use requests::{Ask, Request};
-use rules::{BLOCK, Written};
+use rules::BLOCK;
 use show::Said;
 use std::io;
 
@@ -15,27 +15,27 @@ fn hand(
     octets: &[u8],
     store: &mut [u8],
     out: &mut [u8],
-) -> io::Result<Told> {
+) -> io::Result<Option<Told>> {
     show::hex(rt, octets)?;
-    show::word(rt, b" ")?;
+    print!(rt; " ")?;
     let a = depot::frame(store, octets, out);
-    show::say(rt, out, Said::Answer(a))?;
-    show::word(rt, b" ")?;
+    show::say(rt, out, Some(Said::Answer(a)))?;
+    print!(rt; " ")?;
     match a {
-        Answer::Reply(n) => tell::reply(rt, q, part(out, 0, n)),
-        _ => Ok(tell::nothing()),
+        Ok(Answer::Reply(n)) => tell::reply(rt, q, part(out, 0, n)),
+        _ => Ok(None),
     }
 }
 
 // Makes a request, hands it to the box, and reads the reply.
-fn ask(rt: &impl Print, q: Request, store: &mut [u8], out: &mut [u8]) -> io::Result<Told> {
+fn ask(rt: &impl Print, q: Request, store: &mut [u8], out: &mut [u8]) -> io::Result<Option<Told>> {
     let mut buf = [0u8; 64];
     match maker::make(q, &mut buf) {
-        Written::Refused(r) => {
+        Err(r) => {
             tell::refused(rt, r)?;
-            Ok(tell::nothing())
+            Ok(None)
         }
-        Written::Octets(n) => hand(rt, q, part(&buf, 0, n), store, out),
+        Ok(n) => hand(rt, q, part(&buf, 0, n), store, out),
     }
 }
 
@@ -45,32 +45,33 @@ pub fn call(rt: &impl Print, text: &[u8], store: &mut [u8], out: &mut [u8]) -> i
     Ok(())
 }
 
+// The data that a reply was told to carry; none where nothing was told.
+fn sent(out: &[u8], told: Option<Told>) -> &[u8] {
+    match told {
+        Some(t) => part(out, t.start, t.len),
+        None => &[],
+    }
+}
+
 // Block 7 of the desk that a request names, in RAM.
 fn seven(rt: &impl Print, q: Request, store: &mut [u8], out: &mut [u8]) -> io::Result<[u8; BLOCK]> {
-    let kind = q.kind;
-    let t = ask(
-        rt,
-        Request {
-            kind: kind,
-            desk: q.desk,
-            ask: Ask::ReadBlock(7),
-            bytes: [0; BLOCK],
-        },
-        store,
-        out,
-    )?;
-    let b = typed::block_in(part(out, t.start, t.len));
-    Ok(b.bytes)
+    let of_block = Request {
+        kind: q.kind,
+        desk: q.desk,
+        ask: Ask::ReadBlock(7),
+        bytes: [0; BLOCK],
+    };
+    let told = ask(rt, of_block, store, out)?;
+    Ok(typed::block_in(sent(out, told)).unwrap_or([0; BLOCK]))
 }
 
 // The lines of the records that the data of a reply carry.
 fn lined(rt: &impl Print, block: [u8; BLOCK], sent: &[u8]) -> io::Result<()> {
     let mut buf = [0u8; 2048];
     match lines::lines(block, sent, &mut buf) {
-        Written::Refused(r) => tell::refused(rt, r),
-        Written::Octets(n) => {
-            show::number(rt, n as u64)?;
-            show::word(rt, b" octets\n")?;
+        Err(r) => tell::refused(rt, r),
+        Ok(n) => {
+            print!(rt; "{n} octets\n")?;
             show::word(rt, part(&buf, 0, n))
         }
     }
@@ -80,8 +81,8 @@ fn lined(rt: &impl Print, block: [u8; BLOCK], sent: &[u8]) -> io::Result<()> {
 pub fn lines(rt: &impl Print, text: &[u8], store: &mut [u8], out: &mut [u8]) -> io::Result<()> {
     let q = request(text);
     let block = seven(rt, q, store, out)?;
-    show::word(rt, b"\n")?;
-    let t = ask(rt, q, store, out)?;
-    show::word(rt, b"\n")?;
-    lined(rt, block, part(out, t.start, t.len))
+    print!(rt; "\n")?;
+    let told = ask(rt, q, store, out)?;
+    print!(rt; "\n")?;
+    lined(rt, block, sent(out, told))
 }

@@ -1,7 +1,7 @@
 // The host side by itself, with a buffer that is full of marks, of which a part is lent.
 use crate::read::{block, first, number, part, request, rest};
 use crate::tell;
-use rules::Written;
+use frame::Refusal;
 use std::io;
 use table::RECORD;
 
@@ -23,7 +23,7 @@ pub fn hear(rt: &impl Print, text: &[u8]) -> io::Result<()> {
 }
 
 // Writes into what is lent.
-fn fill(letter: u8, text: &[u8], out: &mut [u8]) -> Written {
+fn fill(letter: u8, text: &[u8], out: &mut [u8]) -> Result<usize, Refusal> {
     match letter {
         b'r' => maker::make(request(text), out),
         b'b' => lines::lines(block(text), &TWO, out),
@@ -41,34 +41,26 @@ fn written(rt: &impl Print, letter: u8, s: &[u8]) -> io::Result<()> {
 
 // Whether all octets but the first n hold the mark.
 fn kept(rt: &impl Print, buf: &[u8], n: usize) -> io::Result<()> {
-    let marks = [MARK; 64];
-    if n > 64 {
+    let Some(rest) = buf.get(n..) else {
         return Ok(());
-    }
-    if show::alike(part(&marks, n, 64 - n), part(buf, n, 64 - n)) {
-        show::word(rt, b" kept")
+    };
+    if rest.iter().all(|b| *b == MARK) {
+        print!(rt; " kept")
     } else {
-        show::word(rt, b" changed")
+        print!(rt; " changed")
     }
 }
 
-// Lends so much of the buffer, and no more than there is.
-fn trial(letter: u8, text: &[u8], buf: &mut [u8], room: usize) -> Written {
-    if buf.len() < room {
-        return fill(letter, text, buf);
-    }
-    fill(letter, text, &mut buf[..room])
-}
-
-// Lends a part of the buffer, and says what was written there and whether all else was kept.
+// Lends so much of a buffer, and no more than there is, and says what was written there and whether all else was kept.
 pub fn lend(rt: &impl Print, letter: u8, text: &[u8]) -> io::Result<()> {
     let mut buf = [MARK; 64];
-    match trial(letter, rest(text, 1), &mut buf, number(text) as usize) {
-        Written::Refused(r) => {
+    let room = (number(text) as usize).min(buf.len());
+    match fill(letter, rest(text, 1), &mut buf[..room]) {
+        Err(r) => {
             tell::refused(rt, r)?;
             kept(rt, &buf, 0)
         }
-        Written::Octets(n) => {
+        Ok(n) => {
             written(rt, letter, part(&buf, 0, n))?;
             kept(rt, &buf, n)
         }

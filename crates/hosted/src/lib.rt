@@ -11,7 +11,7 @@
 //     both ROOM BLOCK                   the lines of two records are written
 #![tactic(auto)]
 
-use read::{rest, told_of};
+use read::rest;
 use std::io;
 use std::io::Input;
 
@@ -38,39 +38,25 @@ fn act(
 
 // Whether a step is one of the host side.
 fn ours(letter: u8) -> bool {
-    match letter {
-        b's' | b'a' | b'l' | b'r' | b'h' | b'w' | b'd' | b'b' => true,
-        _ => false,
-    }
+    matches!(
+        letter,
+        b's' | b'a' | b'l' | b'r' | b'h' | b'w' | b'd' | b'b'
+    )
 }
 
 // A step of a script.
 fn step(rt: &impl Print, line: &[u8], store: &mut [u8], out: &mut [u8]) -> io::Result<()> {
-    let letter = show::letter(line);
-    if ours(letter) {
-        show::name(rt, line)?;
-        act(rt, letter, told_of(line), store, out)?;
-        show::word(rt, b"\n")
-    } else {
-        show::step(rt, line, store, out)
+    match show::letter(line) {
+        Some(letter) if ours(letter) => {
+            show::name(rt, line)?;
+            act(rt, letter, show::told_of(line), store, out)?;
+            print!(rt; "\n")
+        }
+        _ => show::step(rt, line, store, out),
     }
-}
-
-// All steps of a script.
-pub fn play(rt: &impl Print, script: &[u8], store: &mut [u8], out: &mut [u8]) -> io::Result<()> {
-    let mut at: usize = 0;
-    while at < script.len() {
-        let start = at + 1;
-        let end = show::until(script, start, b'\n');
-        step(rt, &script[start..end], store, out)?;
-        at = end;
-    }
-    Ok(())
 }
 
 // All steps of the script that stands on standard input.
 pub fn play_input(rt: &(impl Input + Print), store: &mut [u8], out: &mut [u8]) -> io::Result<()> {
-    let mut script = [0u8; show::SCRIPT];
-    let n = show::input(rt, &mut script)?;
-    play(rt, &script[..n], store, out)
+    show::each_input_line(rt, |line| step(rt, line, store, out))
 }

@@ -1,54 +1,35 @@
 // Reading the words of a line, and a request from them.
-ghost use Rattle.std.specs.Prelude.{◌≤◌, length};
-
 use frame::Kind;
 use requests::{Ask, Request};
 use rules::BLOCK;
 
-// What a line says to do, from its colon on.
-pub fn told_of(line: &[u8]) -> &[u8] {
-    let at = show::until(line, 0, b':');
-    &line[at..]
-}
-
-// The place behind a mark, where there is one.
-fn behind(s: &[u8], at: usize) -> usize
-    requires { at ≤ length s.now }
-    ensures { result ≤ length s.now }
-{
-    if at < s.len() {
-        return at + 1;
-    }
-    at
+// What stands behind the first space.
+fn behind(text: &[u8]) -> &[u8] {
+    text.get(show::until(text, b' ') + 1..).unwrap_or(&[])
 }
 
 // What stands behind the nth space.
 pub fn rest(text: &[u8], n: usize) -> &[u8] {
-    let mut at: usize = 0;
-    let mut k: usize = 0;
-    while k < n {
-        at = behind(text, show::until(text, at, b' '));
-        k += 1;
+    let mut text = text;
+    for _ in 0..n {
+        text = behind(text);
     }
-    &text[at..]
+    text
 }
 
 // The first word.
 pub fn first(text: &[u8]) -> &[u8] {
-    part(text, 0, show::until(text, 0, b' '))
+    &text[..show::until(text, b' ')]
 }
 
-// The number that a text begins with, in hex.
+// The number that a text begins with, in hex; the library's parsers take a whole text, and refuse what is too long.
 pub fn number(text: &[u8]) -> u64 {
     let mut v: u64 = 0;
-    let mut i: usize = 0;
-    while i < text.len() {
-        let d = show::digit(text[i]);
-        if d > 15 {
-            return v;
-        }
+    for c in text {
+        let Some(d) = show::digit(*c) else {
+            break;
+        };
         v = v % 0x100000000000000 * 16 + d as u64;
-        i += 1;
     }
     v
 }
@@ -61,13 +42,14 @@ pub fn block(text: &[u8]) -> [u8; BLOCK] {
 }
 
 fn kind(text: &[u8]) -> Kind {
-    if show::peek(text, 0) == b'a' {
-        return Kind::Advanced;
+    match text {
+        [b'a', ..] => Kind::Advanced,
+        _ => Kind::Standard,
     }
-    Kind::Standard
 }
 
-// What is asked, by its control byte and its values; a control byte that is none of these is 0x33.
+// What is asked, by its control byte and its values; a control byte that is none of these is 0x33. Numbers, as the script has them: values
+// out of range are among what it tries.
 fn ask(control: u64, a: u64, b: u64, c: u64) -> Ask {
     match control {
         0x52 => Ask::Baud(a),
@@ -105,11 +87,5 @@ pub fn request(text: &[u8]) -> Request {
 
 // A part of a slice; nothing where it does not lie within.
 pub fn part(s: &[u8], from: usize, len: usize) -> &[u8] {
-    if s.len() < from {
-        return &s[..0];
-    }
-    if s.len() - from < len {
-        return &s[..0];
-    }
-    &s[from..from + len]
+    s.get(from..).and_then(|s| s.get(..len)).unwrap_or(&[])
 }

@@ -1,9 +1,9 @@
 -- Scan lines in a lent output: when they are refused, and what is written. Assumes nothing.
-use Rattle.std.specs.Prelude.{ℕ, Bool, not, List, [], ◌∷◌, map, length, drop, ltb}
+use Rattle.std.specs.Prelude.{ℕ, Bool, not, List, [], ◌∷◌, map, length, drop, ltb, Result}
 use Rattle.octets.specs.Tests.{first}
 use Rattle.octets.specs.Parts.{rows, joined}
 use Rattle.table.specs.Entries.{record_width}
-use Rattle.rules.specs.declared.Written.{Written}
+use Rattle.frame.specs.declared.Refusal.{Refusal}
 use Rattle.rules.specs.Config.{line_legal}
 use Rattle.rules.specs.Records.{records_for}
 use Rattle.rules.specs.Output.{Wrote}
@@ -15,7 +15,7 @@ unfoldable pub line_refusals : List ℕ → List ℕ → ℕ → List (ℕ × Bo
 line_refusals block text room = (6, not (line_legal block)) ∷ (7, ltb room (length text)) ∷ []
 
 -- refused and nothing written; or the text at the start of the output, and the octets after it stay
-abbrev pub Lined : List ℕ → List ℕ → List ℕ → Written → List ℕ → Type 0
+abbrev pub Lined : List ℕ → List ℕ → List ℕ → Result ℕ Refusal → List ℕ → Type 0
 Lined block text out a out' = Wrote (first (line_refusals block text (length out))) text out a out'
 
 -- ---- of many records
@@ -33,5 +33,5 @@ unfoldable pub lines_refusals : List ℕ → List ℕ → ℕ → List (ℕ × B
 lines_refusals block sent room = (6, not (line_legal block)) ∷ (6, not (read_data sent)) ∷ (7, ltb room (length (lines_of block sent))) ∷ []
 
 -- all lines, or none
-abbrev pub AllLined : List ℕ → List ℕ → List ℕ → Written → List ℕ → Type 0
+abbrev pub AllLined : List ℕ → List ℕ → List ℕ → Result ℕ Refusal → List ℕ → Type 0
 AllLined block sent out a out' = Wrote (first (lines_refusals block sent (length out))) (lines_of block sent) out a out'

@@ -20,7 +20,7 @@ fn print(rt: &impl Print, out: &[u8], written: usize) -> io::Result<()>
     rt.write_all(&out[..written])
 }
 
-// Takes all that was read, and prints what that says before a read that may wait.
+// Takes all that was read, and prints what that says before a read that may wait. The buffers are lent by themselves, as `taking` takes them.
 fn hear(
     rt: &impl Print,
     line: Begun,
@@ -31,12 +31,12 @@ fn hear(
     out: &mut [u8; OUT],
 ) -> io::Result<Begun> {
     let mut begun = line;
-    let mut at: usize = 0;
-    while at < input.len() {
-        let p = taking::take_part(begun, &input[at..], held, store, reply, out);
+    let mut rest = input;
+    while !rest.is_empty() {
+        let p = taking::take_part(begun, rest, held, store, reply, out);
         print(rt, out, p.written)?;
         begun = p.line;
-        at += p.taken;
+        rest = &rest[p.taken..];
     }
     Ok(begun)
 }
@@ -68,6 +68,7 @@ fn main(rt: HostRuntime) -> io::Result<()> {
     let mut held = [0u8; HELD];
     let mut reply = [0u8; Advanced::LONGEST];
     let mut out = [0u8; OUT];
-    depot::fresh(&mut store);
+    // An array of a store's size is not refused.
+    let _ = depot::fresh(&mut store);
     list(&rt, &mut held, &mut store, &mut reply, &mut out)
 }

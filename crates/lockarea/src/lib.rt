@@ -2,12 +2,12 @@
 // Where no lock stands no array is laid out: on an empty store that was most of a call.
 #![tactic(auto)]
 
-ghost use Rattle.std.specs.Prelude.{◌≡◌, ◌+◌, ◌-◌, ◌*◌, ◌≤◌, length, take};
+ghost use Rattle.std.specs.Prelude.{◌≡◌, ◌+◌, ◌-◌, ◌*◌, ◌≤◌, length};
 ghost use Rattle.octets.specs.Parts.{part, put};
 ghost use Rattle.locks.specs.Locks.{most_locks, swept_of, found_in, added, locks_legal};
 ghost use Rattle.lockarea.specs.Area.{lock_width, lock_from, lock_octets, locks_in, locks_octets};
 
-use locks::{Found, Lock, MOST};
+use locks::{Lock, MOST};
 
 // The octets of a lock.
 pub const WIDTH: usize = 10;
@@ -15,16 +15,17 @@ pub const WIDTH: usize = 10;
 // Where the last of them begins.
 const LAST: usize = WIDTH * (MOST - 1);
 
+// What stands in an array before locks are read into it.
+const NO_LOCK: Lock = Lock { uid: 0, left: 0 };
+
 // One lock is read from the store.
 fn read_lock(p: &[u8], at: usize) -> Lock
     requires { at + lock_width ≤ length p.now }
     ensures { result ≡ lock_from (part at lock_width p.now) }
 {
-    let uid = octets::number64(p, at);
-    let left = octets::get16(p, at + 8);
     Lock {
-        uid: uid,
-        left: left,
+        uid: octets::number::<8>(p, at),
+        left: octets::get16(p, at + 8),
     }
 }
 
@@ -33,37 +34,31 @@ fn write_lock(p: &mut [u8], at: usize, l: Lock)
     requires { at + lock_width ≤ length p.old }
     ensures { p.new ≡ put at (lock_octets l) p.old }
 {
-    octets::put64(p, at, l.uid);
-    octets::put16(p, at + 8, l.left);
+    octets::put::<8>(p, at, l.uid);
+    octets::put::<2>(p, at + 8, u64::from(l.left));
 }
 
-// The first n locks of the store.
-pub fn load(p: &[u8], n: usize) -> [Lock; MOST]
-    requires { (n ≤ most_locks) × (lock_width * n ≤ length p.now) }
-    ensures { take n result ≡ locks_in n p.now }
+// The first locks of the store, as many as there are places for.
+pub fn load(p: &[u8], locks: &mut [Lock])
+    requires { lock_width * length locks.old ≤ length p.now }
+    ensures { locks.new ≡ locks_in (length locks.old) p.now }
 {
-    let mut a = [Lock { uid: 0, left: 0 }; MOST];
-    let mut i: usize = 0;
-    while i < n {
-        let l = read_lock(p, WIDTH * i);
-        a[i] = l;
-        i += 1;
+    for i in 0..locks.len() {
+        locks[i] = read_lock(p, WIDTH * i);
     }
-    a
 }
 
-// The first n locks of a go to the store.
-pub fn save(p: &mut [u8], a: [Lock; MOST], n: usize)
-    requires { (n ≤ most_locks) × (lock_width * n ≤ length p.old) }
-    ensures { p.new ≡ put 0 (locks_octets (take n a)) p.old }
+// The locks go to the store.
+pub fn save(p: &mut [u8], locks: &[Lock])
+    requires { lock_width * length locks.now ≤ length p.old }
+    ensures { p.new ≡ put 0 (locks_octets locks.now) p.old }
 {
-    let mut i: usize = 0;
-    while i < n {
-        let l = a[i];
-        write_lock(p, WIDTH * i, l);
-        i += 1;
+    for (i, l) in locks.iter().enumerate() {
+        write_lock(p, WIDTH * i, *l);
     }
 }
+
+// Here and below n stands beside the octets: it is an octet of the row, kept apart from the locks, and what lies behind them is free room.
 
 // A tick of the first n locks of the store. Gives how many are left.
 pub fn tick(p: &mut [u8], n: usize) -> usize
@@ -73,24 +68,26 @@ pub fn tick(p: &mut [u8], n: usize) -> usize
     if n == 0 {
         return 0;
     }
-    let a = load(p, n);
-    let s = locks::after_sweep(a, n);
-    let b = s.locks;
-    let k = s.n;
-    save(p, b, k);
-    k
+    let mut room = [NO_LOCK; MOST];
+    let locks = &mut room[..n];
+    load(p, locks);
+    let left = locks::sweep(locks);
+    save(p, &locks[..left]);
+    left
 }
 
 // The first of the first n locks of the store with that UID.
-pub fn lookup_in(p: &[u8], n: usize, uid: u64) -> Found
+pub fn lookup_in(p: &[u8], n: usize, uid: u64) -> Option<(usize, u16)>
     requires { (n ≤ most_locks) × (lock_width * n ≤ length p.now) }
     ensures { result ≡ found_in uid (locks_in n p.now) }
 {
     if n == 0 {
-        return Found::Nothing;
+        return None;
     }
-    let a = load(p, n);
-    locks::after_find(a, n, uid)
+    let mut room = [NO_LOCK; MOST];
+    let locks = &mut room[..n];
+    load(p, locks);
+    locks::find(locks, uid)
 }
 
 // The locks behind the first move down by one.
@@ -109,10 +106,7 @@ pub fn add(p: &mut [u8], n: usize, uid: u64, valid: u16) -> usize
     if valid == 0 {
         return n;
     }
-    let l = Lock {
-        uid: uid,
-        left: valid,
-    };
+    let l = Lock { uid, left: valid };
     if n < MOST {
         write_lock(p, WIDTH * n, l);
         return n + 1;
@@ -130,9 +124,8 @@ pub fn legal(p: &[u8], n: usize, valid: u16) -> bool
     if n == 0 {
         return true;
     }
-    let a = load(p, n);
-    if !locklegal::each_legal(a, n, valid) {
-        return false;
-    }
-    locklegal::all_differ(a, n)
+    let mut room = [NO_LOCK; MOST];
+    let locks = &mut room[..n];
+    load(p, locks);
+    locklegal::each_legal(locks, valid) && locklegal::all_differ(locks)
 }

@@ -2,7 +2,7 @@
 use Prim.Native.Nat.{ℕ, ◌^◌, ◌≤◌, ◌<◌}
 use mathlib.Core.Path.{◌≡◌, refl, sym, ap, ◌∙◌}
 use mathlib.Core.List.{List, [], ◌∷◌, ◌++◌}
-use mathlib.Core.Bool.{Bool, true, false, cond, not}
+use mathlib.Core.Bool.{Bool, true, false, cond, not, ◌&&◌}
 use native.Mathlib.Omega.{arith}
 use lib.Dec.{eqb, ltb, leb, lit<}
 use borrow.Author.Tests.{ltb-true, leb-true, eqb-true, eqb-false, le-leb, ne_eqb, not-true}
@@ -12,7 +12,7 @@ use Rattle.octets.proofs.Tests.{both, and_left, and_right, and_both, or_left, or
 use Rattle.octets.specs.Each.{All}
 use Rattle.octets.proofs.Each.{all-facts, all-test, all_append, all_drop}
 use Rattle.locks.specs.declared.Lock.{Lock}
-use Rattle.locks.specs.declared.Aged.TheVariants.{Stays, Goes}
+use Rattle.std.specs.Prelude.{Some, None}
 use Rattle.locks.specs.Locks.{less, aged_of, kept_before, swept_of, found_from, locked, most_locks, made_room, added, lock_legal, distinct, locks_legal}
 use Rattle.locks.proofs.Lookups.{locked-cons}
 use Rattle.locks.proofs.Sweeps.{swept-length}
@@ -47,13 +47,6 @@ pub lock-test : (valid : ℕ) (l : Lock) → LockLegal valid l → lock_legal va
 unfolding lock_legal
 lock-test valid l p = and_both _ _ (le-leb 1 l.left p.low) (le-leb l.left valid p.high)
 
-pub lock-fails : (valid : ℕ) (l : Lock) → (LockLegal valid l → ⊥) → lock_legal valid l ≡ false
-lock-fails valid l n = go (lock_legal valid l) refl
-  where
-    go : (b : Bool) → lock_legal valid l ≡ b → b ≡ false
-    go true e = absurd (n (lock-facts valid l e))
-    go false e = refl
-
 distinct-facts : (ls : List Lock) → distinct ls ≡ true → Distinct ls
 unfolding distinct
 distinct-facts [] e = tt
@@ -79,14 +72,10 @@ module _ (valid : ℕ) (ls : List Lock) where
   locks-test p =
       simp (le-leb (length ls) most_locks p.few, all-test (lock_legal valid) (LockLegal valid) (lock-test valid) ls p.each, distinct-test ls p.distinct)
 
-  -- one test after the other, as the code runs them
-  pub legal-fails : length ls ≤ most_locks → all_of (lock_legal valid) ls ≡ false → locks_legal valid ls ≡ false
+  -- of so many, as the code tests them
+  pub legal_few : length ls ≤ most_locks → locks_legal valid ls ≡ (all_of (lock_legal valid) ls && distinct ls)
   unfolding locks_legal
-  legal-fails h e = rw (le-leb (length ls) most_locks h, e)
-
-  pub legal-distinct : length ls ≤ most_locks → all_of (lock_legal valid) ls ≡ true → locks_legal valid ls ≡ distinct ls
-  unfolding locks_legal
-  legal-distinct h e = rw (le-leb (length ls) most_locks h, e)
+  legal_few h = rw (le-leb (length ls) most_locks h)
 
 -- ---- who is not locked
 
@@ -108,7 +97,7 @@ unfolding swept_of aged_of
 swept-unlocked uid [] e = e
 swept-unlocked uid (l ∷ ls) e = go (ltb 1 l.left) (unlocked-head uid l ls e) (swept-unlocked uid ls (unlocked-tail uid l ls e))
   where
-    go : (b : Bool) → eqb l.uid uid ≡ false → locked uid (swept_of ls) ≡ false → locked uid (kept_before (cond b (Stays (less l)) Goes) (swept_of ls)) ≡ false
+    go : (b : Bool) → eqb l.uid uid ≡ false → locked uid (swept_of ls) ≡ false → locked uid (kept_before (cond b (Some (less l)) None) (swept_of ls)) ≡ false
     go true p q = unlocked-cons uid (less l) (swept_of ls) p q
     go false p q = q
 
@@ -118,7 +107,7 @@ unfolding swept_of aged_of
 swept_all P f [] p = tt
 swept_all P f (l ∷ ls) p = go (ltb 1 l.left) refl (swept_all P f ls p.1)
   where
-    go : (b : Bool) → ltb 1 l.left ≡ b → All P (swept_of ls) → All P (kept_before (cond b (Stays (less l)) Goes) (swept_of ls))
+    go : (b : Bool) → ltb 1 l.left ≡ b → All P (swept_of ls) → All P (kept_before (cond b (Some (less l)) None) (swept_of ls))
     go true e q = (f l (ltb-true 1 l.left e) p.0, q)
     go false e q = q
 
@@ -127,7 +116,7 @@ unfolding swept_of aged_of
 swept-distinct [] p = tt
 swept-distinct (l ∷ ls) p = go (ltb 1 l.left) (swept-distinct ls p.1)
   where
-    go : (b : Bool) → Distinct (swept_of ls) → Distinct (kept_before (cond b (Stays (less l)) Goes) (swept_of ls))
+    go : (b : Bool) → Distinct (swept_of ls) → Distinct (kept_before (cond b (Some (less l)) None) (swept_of ls))
     go true q = (swept-unlocked l.uid ls p.0, q)
     go false q = q
 

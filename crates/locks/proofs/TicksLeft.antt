@@ -10,7 +10,7 @@ use lib.Dec.{eqb, ltb}
 use lib.ListN.{length, drop, get_or}
 use Rattle.octets.specs.Each.{All}
 use Rattle.locks.specs.declared.Lock.{Lock}
-use Rattle.locks.specs.declared.Aged.TheVariants.{Stays, Goes}
+use Rattle.std.specs.Prelude.{Some, None}
 use Rattle.locks.specs.Locks.{less, aged_of, kept_before, swept_of, found_from, locked, ticks_left, added}
 use Rattle.locks.proofs.Lookups.{locked-cons, left-cons}
 use Rattle.locks.proofs.Sound.{LockLegal, LocksLegal, Distinct, unlocked-head, unlocked-tail, swept-unlocked, added-keeps}
@@ -94,7 +94,7 @@ swept-left uid (l ∷ ls) p = go (ltb 1 l.left) (eqb l.uid uid) refl refl (swept
     gone e = unlocked-left uid (swept_of ls) (swept-unlocked uid ls (rw (eqb-true l.uid uid e) at p.0))
 
     go : (stays here : Bool) → ltb 1 l.left ≡ stays → eqb l.uid uid ≡ here → ticks_left uid (swept_of ls) ≡ ticks_left uid ls - 1
-        → ticks_left uid (kept_before (cond stays (Stays (less l)) Goes) (swept_of ls)) ≡ ticks_left uid (l ∷ ls) - 1
+        → ticks_left uid (kept_before (cond stays (Some (less l)) None) (swept_of ls)) ≡ ticks_left uid (l ∷ ls) - 1
     go true true q e later = left_here uid (less l) (swept_of ls) e ∙ rw (left_here uid l ls e)
     go true false q e later = left-later uid (less l) (swept_of ls) e ∙ later ∙ rw (left-later uid l ls e)
     go false true q e later = gone e ∙ rw (left_here uid l ls e) (omega (arith, ltb-false 1 l.left q))

@@ -1,11 +1,7 @@
 -- The locks of one desk: a tick, a search, a new lock, which lists are sound. Assumes nothing.
-use Rattle.std.specs.Prelude.{ℕ, ◌+◌, ◌-◌, Bool, true, false, cond, not, ◌&&◌, List, [], ◌∷◌, ◌++◌, ltb, leb, eqb, length, take, drop}
+use Rattle.std.specs.Prelude.{ℕ, ◌+◌, ◌-◌, Bool, true, cond, not, ◌&&◌, List, [], ◌∷◌, ◌++◌, ltb, leb, eqb, length, drop, Option, Some, None, is_some}
 use Rattle.octets.specs.Tests.{all_of}
 use Rattle.locks.specs.declared.Lock.{Lock}
-use Rattle.locks.specs.declared.Aged.{Aged}
-use Rattle.locks.specs.declared.Aged.TheVariants.{Stays, Goes}
-use Rattle.locks.specs.declared.Found.{Found}
-use Rattle.locks.specs.declared.Found.TheVariants.{At, Nothing}
 
 -- ---- a tick
 
@@ -14,22 +10,22 @@ abbrev pub less : Lock → Lock
 less l = record { uid = l.uid; left = l.left - 1 }
 
 -- a lock loses one tick, and goes where it reaches zero
-unfoldable pub aged_of : Lock → Aged
-aged_of l = cond (ltb 1 l.left) (Stays (less l)) Goes
+unfoldable pub aged_of : Lock → Option Lock
+aged_of l = cond (ltb 1 l.left) (Some (less l)) None
 
 -- before the others stands one that stays
-abbrev pub kept_before : Aged → List Lock → List Lock
-kept_before (Stays l) ls = l ∷ ls
-kept_before Goes ls = ls
+abbrev pub kept_before : Option Lock → List Lock → List Lock
+kept_before (Some l) ls = l ∷ ls
+kept_before None ls = ls
 
 -- each lock loses one tick; those that reach zero go, and the others keep their order
 unfoldable pub swept_of : List Lock → List Lock
 swept_of [] = []
 swept_of (l ∷ ls) = kept_before (aged_of l) (swept_of ls)
 
--- the first n are swept, and what is left of them stands in front; what stood behind that stays as it was
-abbrev pub sweep_of : ℕ → List Lock → List Lock
-sweep_of n ls = swept_of (take n ls) ++ drop (length (swept_of (take n ls))) ls
+-- they are swept, and what is left of them stands in front; what stood behind that stays as it was
+abbrev pub sweep_of : List Lock → List Lock
+sweep_of ls = swept_of ls ++ drop (length (swept_of ls)) ls
 
 -- ---- a search
 
@@ -38,24 +34,20 @@ abbrev pub is_of : ℕ → Lock → Bool
 is_of uid l = eqb l.uid uid
 
 -- the first lock with that UID: its place, counted from k, and the ticks that it has left
-unfoldable pub found_from : ℕ → ℕ → List Lock → Found
-found_from k uid [] = Nothing
-found_from k uid (l ∷ ls) = cond (is_of uid l) (At k l.left) (found_from (k + 1) uid ls)
+unfoldable pub found_from : ℕ → ℕ → List Lock → Option (ℕ × ℕ)
+found_from k uid [] = None
+found_from k uid (l ∷ ls) = cond (is_of uid l) (Some (k, l.left)) (found_from (k + 1) uid ls)
 
-abbrev pub found_in : ℕ → List Lock → Found
+abbrev pub found_in : ℕ → List Lock → Option (ℕ × ℕ)
 found_in uid ls = found_from 0 uid ls
-
-abbrev pub is_found : Found → Bool
-is_found (At k left) = true
-is_found Nothing = false
 
 -- a lock with that UID stands
 abbrev pub locked : ℕ → List Lock → Bool
-locked uid ls = is_found (found_in uid ls)
+locked uid ls = is_some (found_in uid ls)
 
-abbrev pub left_of : Found → ℕ
-left_of (At k left) = left
-left_of Nothing = 0
+abbrev pub left_of : Option (ℕ × ℕ) → ℕ
+left_of (Some found) = found.1
+left_of None = 0
 
 -- the ticks that the lock of that UID has left; 0 where none stands
 abbrev pub ticks_left : ℕ → List Lock → ℕ

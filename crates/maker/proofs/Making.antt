@@ -1,4 +1,6 @@
 -- What the maker refuses, and what it has made: the data at their place, and the frame around them. Assumes nothing.
+use Rattle.std.specs.Prelude.{Option, Some, Result, Ok, Err}
+use Rattle.std.specs.Option.{ok_or}
 use Prim.Native.Nat.{ℕ, ◌+◌, ◌-◌, ◌≤◌, ◌<◌}
 use mathlib.Core.Path.{◌≡◌, refl, sym, ap, ◌∙◌}
 use mathlib.Core.Bool.{true, false}
@@ -13,15 +15,14 @@ use Rattle.octets.proofs.Lent.{put-lent}
 use Rattle.octets.proofs.Puts.{put-length, part-put-same, put-over}
 use Rattle.frame.specs.declared.Kind.{Kind}
 use Rattle.frame.specs.declared.Way.TheVariants.{Request}
+use Rattle.frame.specs.declared.Refusal.{Refusal}
 use Rattle.frame.specs.declared.Refusal.TheVariants.{NoDesk, OutOfRange, NoRoom}
 use Rattle.frame.specs.Shape.{overhead, data_at}
 use Rattle.frame.proofs.Numbers.{refuses}
 use Rattle.frame.specs.Sealed.{frame_of}
 use Rattle.frame.proofs.Lengths.{length-frame}
-use Rattle.seal.specs.declared.Sealed.TheVariants.{Octets, Not}
 use Rattle.seal.specs.Buffer.{fits_in, sealed_as, request_in}
 use Rattle.seal.proofs.Room.{by-room, within}
-use Rattle.rules.specs.declared.Written.TheVariants as written
 use Rattle.table.specs.Entries.{desks}
 use Rattle.rules.specs.declared.control.Terms.{Terms}
 use Rattle.rules.specs.Config.{block_size}
@@ -50,23 +51,23 @@ no_room q room size e =
     omega (arith, frame-size q)
 
 module _ (q : Asked) (out : List ℕ) where
-  pub refused-desk : desks ≤ q.desk → Requested q out (written.Refused NoDesk) out
+  pub refused-desk : desks ≤ q.desk → Requested q out (Err NoDesk) out
   unfolding maker_refusals first
-  refused-desk h = record { outcome = rw (le-leb desks q.desk h) (refuses written.Refused NoDesk, refl) }
+  refused-desk h = record { outcome = rw (le-leb desks q.desk h) (refuses Err NoDesk, refl) }
 
   module _ (low : q.desk < desks) where
-    pub refused-range : in_range q ≡ false → Requested q out (written.Refused OutOfRange) out
+    pub refused-range : in_range q ≡ false → Requested q out (Err OutOfRange) out
     unfolding maker_refusals first
-    refused-range e = record { outcome = rw (lt-leb desks q.desk low, e) (refuses written.Refused OutOfRange, refl) }
+    refused-range e = record { outcome = rw (lt-leb desks q.desk low, e) (refuses Err OutOfRange, refl) }
 
     module _ (range : in_range q ≡ true) where
-      pub refused-room : length out < length (request_frame q) → Requested q out (written.Refused NoRoom) out
+      pub refused-room : length out < length (request_frame q) → Requested q out (Err NoRoom) out
       unfolding maker_refusals first
-      refused-room h = record { outcome = rw (lt-leb desks q.desk low, range, lt-ltb _ _ h) (refuses written.Refused NoRoom, refl) }
+      refused-room h = record { outcome = rw (lt-leb desks q.desk low, range, lt-ltb _ _ h) (refuses Err NoRoom, refl) }
 
-      pub made : (n : ℕ) (out' : List ℕ) → length (request_frame q) ≤ length out → n ≡ length (request_frame q) → out' ≡ put 0 (request_frame q) out → Requested q out (written.Octets n) out'
+      pub made : (n : ℕ) (out' : List ℕ) → length (request_frame q) ≤ length out → n ≡ length (request_frame q) → out' ≡ put 0 (request_frame q) out → Requested q out (Ok n) out'
       unfolding maker_refusals first
-      made n out' h e o = record { outcome = rw (lt-leb desks q.desk low, range, le-ltb _ _ h) (ap written.Octets e, o) }
+      made n out' h e o = record { outcome = rw (lt-leb desks q.desk low, range, le-ltb _ _ h) (ap Ok e, o) }
 
 -- ---- the frame around the data
 
@@ -75,7 +76,7 @@ module _ (k : Kind) (adr ctl : ℕ) (body out out' : List ℕ) (fits : fits_in R
   fits' : fits_in Request k (length body) (length out') ≡ true
   fits' = ap (λ (n : ℕ). fits_in Request k (length body) n) (ap length there ∙ put-length (data_at Request k) body out) ∙ fits
 
-  pub request-size : sealed_as Request k (length body) out' ≡ Octets (length (frame_of k adr ctl body))
+  pub request-size : sealed_as Request k (length body) out' ≡ Some (length (frame_of k adr ctl body))
   unfolding sealed_as
   request-size = rw (fits', length-frame k adr ctl body)
 
@@ -107,23 +108,16 @@ module _ (q : Asked) (out ys : List ℕ) (at len ctl : ℕ) (low : q.desk < desk
       put-lent at (length out - at) 0 (data_for q) ys out lent (omega (arith, inside)) (omega (arith, inside))
       ∙ ap (λ (i : ℕ). put i (data_for q) out) (add-zero at ∙ there)
 
-  pub framed : (n : ℕ) (out'' : List ℕ) → sealed_as Request q.kind len written_out ≡ Octets n → out'' ≡ request_in q.kind q.desk ctl len written_out
-      → Requested q out (written.Octets n) out''
+  -- it has room, so that no refusal stands for None
+  pub framed : (o : Option ℕ) (a : Result ℕ Refusal) (out'' : List ℕ) → o ≡ sealed_as Request q.kind len written_out → a ≡ ok_or o NoRoom
+      → out'' ≡ request_in q.kind q.desk ctl len written_out → Requested q out a out''
   unfolding request_frame
-  framed n out'' e o =
+  framed o a out'' s e x =
       let size = request-size q.kind q.desk (control_of q.ask) (data_for q) out written_out roomy put-there in
-      let same : sealed_as Request q.kind (length (data_for q)) written_out ≡ Octets n = ap (λ (k : ℕ). sealed_as Request q.kind k written_out) (sym is) ∙ e in
-      let n-is : n ≡ length (request_frame q) = cc in
+      let same : o ≡ Some (length (request_frame q)) = s ∙ ap (λ (k : ℕ). sealed_as Request q.kind k written_out) is ∙ size in
       let o_is : out'' ≡ put 0 (request_frame q) out =
-      o ∙ rw (is, asks) (request-octets q.kind q.desk (control_of q.ask) (data_for q) out written_out roomy put-there) in
-      made q out low range n out'' (omega (arith, inside, frame-size q)) n-is o_is
-
-  pub never-not : sealed_as Request q.kind len written_out ≡ Not → ⊥
-  never-not e =
-      let size = request-size q.kind q.desk (control_of q.ask) (data_for q) out written_out roomy put-there in
-      let same : sealed_as Request q.kind (length (data_for q)) written_out ≡ Not = ap (λ (k : ℕ). sealed_as Request q.kind k written_out) (sym is) ∙ e in
-      let z : ◌≡◌ {A = ℕ} 0 1 = cc in
-      omega arith
+      x ∙ rw (is, asks) (request-octets q.kind q.desk (control_of q.ask) (data_for q) out written_out roomy put-there) in
+      rw (e, same) (made q out low range (length (request_frame q)) out'' (omega (arith, inside, frame-size q)) refl o_is)
 
 -- how much room there is for the data
 pub data-room : (k : Kind) (len room at : ℕ) → fits_in Request k len room ≡ true → at ≡ data_at Request k → at + len + 2 ≤ room

@@ -2,11 +2,20 @@
 use Prim.Native.Nat.{ℕ}
 use mathlib.Core.Path.{◌≡◌, refl, sym, ap, ap₂, ◌∙◌}
 use mathlib.Core.List.{List, [], ◌∷◌}
-use mathlib.Core.Bool.{Bool, true, false, false≢true}
+use mathlib.Core.Bool.{Bool, true, false, ◌&&◌, false≢true}
 use lib.Dec.{eqb}
 use borrow.Author.Tests.{eq-eqb, eqb-true}
+use Rattle.std.specs.Cmp.Lexicographic.{pointwise}
 use Rattle.octets.specs.Parts.{alike}
 use Rattle.octets.proofs.Tests.{both}
+
+-- the library's test
+pub alike_is : (xs ys : List ℕ) → pointwise eqb xs ys ≡ alike xs ys
+unfolding alike
+alike_is [] [] = refl
+alike_is [] (y ∷ ys) = refl
+alike_is (x ∷ xs) [] = refl
+alike_is (x ∷ xs) (y ∷ ys) = ap (λ (b : Bool). eqb x y && b) (alike_is xs ys)
 
 pub alike_refl : (xs : List ℕ) → alike xs xs ≡ true
 unfolding alike

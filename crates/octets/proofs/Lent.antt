@@ -4,7 +4,7 @@ use mathlib.Core.Path.{◌≡◌, refl, sym, ap, ◌∙◌}
 use mathlib.Core.List.{List, [], ◌∷◌, ◌++◌, append_assoc}
 use native.Mathlib.Omega.{arith}
 use lib.ListN.{length, take, drop, set, length-take, length-drop}
-use lib.Seq.{sets, sets-eq, drop-drop}
+use lib.Seq.{paste, sets, sets-eq, drop-drop}
 use Rattle.octets.specs.Parts.{part, put}
 use Rattle.octets.proofs.Puts.{put-length, part_length, part-put-in, put-over, put-part}
 
@@ -19,6 +19,20 @@ put-mid at k ys s e h =
     sym (append_assoc (take at s) ys (drop k (drop at s)))
     ∙ ap (λ (r : List ℕ). take at s ++ ys ++ r) (drop-drop k at s ∙ ap (λ (j : ℕ). drop (at + j) s) (sym l))
     ∙ sym (put-sets at ys s ∙ sets-eq ys s at (omega arith))
+
+-- a part that was written over
+pub put_over : (at k : ℕ) (ys xs s : List ℕ) → ys ≡ xs → k ≡ length xs → at + k ≤ length s → take at s ++ (ys ++ drop k (drop at s)) ≡ put at xs s
+put_over at k ys xs s e l h =
+    put-mid at k ys s (ap length e ∙ sym l ∙ simp (length-take, length-drop) (omega arith)) h ∙ ap (λ (zs : List ℕ). put at zs s) e
+
+-- octets that were copied to another place of the buffer
+pub put_moved : (to from n k : ℕ) (s : List ℕ) → k ≡ n → from + n ≤ length s → to + n ≤ length s → paste s to (drop from s) k ≡ put to (part from n s) s
+unfolding part
+put_moved to from n k s e h l =
+    let size : length (part from n s) ≡ n = part_length from n s h in
+    ap (paste s to (drop from s)) e
+    ∙ ap (λ (j : ℕ). take to s ++ take n (drop from s) ++ drop (to + j) s) (sym size)
+    ∙ sym (put-sets to (part from n s) s ∙ sets-eq (part from n s) s to (omega arith))
 
 -- a part that was put back with a put in it
 pub put_back : (at k i : ℕ) (xs s : List ℕ) → at + k ≤ length s → i + length xs ≤ k → put at (put i xs (part at k s)) s ≡ put (at + i) xs s

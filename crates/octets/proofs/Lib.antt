@@ -3,7 +3,6 @@ pub mod Every
 pub mod Each
 pub mod Alike
 pub mod Puts
-pub mod Moves
 pub mod Lent
 pub mod Rows
 pub mod Numbers

@@ -1,14 +1,16 @@
 -- Numbers as octets, there and back. Assumes nothing.
-use Prim.Native.Nat.{ℕ, zero, suc, ◌+◌, ◌*◌, ◌/◌, ◌%◌, ◌^◌, ◌≤◌, ◌<◌, zero-le}
+use Prim.Native.Nat.{ℕ, zero, suc, ◌+◌, ◌*◌, ◌/◌, ◌%◌, ◌^◌, ◌-◌, ◌≤◌, ◌<◌, zero-le}
 use mathlib.Core.Path.{◌≡◌, refl, sym, ap, ap₂, ◌∙◌}
 use mathlib.Core.List.{List, [], ◌∷◌, ◌++◌}
-use native.Mathlib.Nat.{pow-suc, pow-succ', mod-one, add-zero, mod-eq_of_lt, mul_assoc, mul-add-div_right, mul-add-mod_self_right, pow-le-pow_right}
+use native.Mathlib.Nat.{div-one, zero-add, suc-add, pow-suc, pow-succ', mod-one, add-zero, mod-eq_of_lt, mul_assoc, mul-add-div_right, mul-add-mod_self_right, pow-le-pow_right}
 use native.Mathlib.Numerals.{add-one}
 use native.Mathlib.Omega.{arith}
 use lib.Dec.{lit<}
 use lib.Arith.{digits_lt, digits_div, mod-mul}
 use native.Mathlib.Decide.{dec_lt}
 use lib.ListN.{length, take, drop, get_or, length-append, length-take, get_or-eq_default}
+use Rattle.std.specs.Int.{byte_at, bytes_high_first}
+use Rattle.std.proofs.lemmas.List.{take_more, take_all}
 use Rattle.octets.specs.Parts.{part, put, Apart}
 use Rattle.octets.specs.Numbers.{number, octets, u16_at, Octets}
 use Rattle.octets.proofs.Puts.{part_none, part-more, part_at, part_length, part-part, part-put-away, part-put-same, put-part}
@@ -66,6 +68,9 @@ number-snoc (y ∷ xs) x =
     let e : length (xs ++ (x ∷ [])) ≡ suc (length xs) = length-append xs (x ∷ []) ∙ add-one (length xs) in
     let p : y * 256 ^ length (xs ++ (x ∷ [])) ≡ y * 256 ^ length xs * 256 = rw (e, pow-suc, mul_assoc) in
     omega (arith, p, number-snoc xs x)
+
+pub number_take_more : (xs : List ℕ) (i : ℕ) → i < length xs → number (take (i + 1) xs) ≡ number (take i xs) * 256 + get_or xs i 0
+number_take_more xs i h = ap number (take_more xs i 0 h) ∙ number-snoc (take i xs) (get_or xs i 0)
 
 pub number-none : (at : ℕ) (s : List ℕ) → number (part at 0 s) ≡ 0
 unfolding number
@@ -140,3 +145,27 @@ put-number n at s h l =
     ap (λ (k : ℕ). put at (octets k (number (part at n s))) s) (sym e)
     ∙ ap (λ (xs : List ℕ). put at xs s) (octets-number (part at n s) (octets-part at n s h))
     ∙ put-part at n s
+
+-- ---- the library's octets of a number
+
+byte_is : (k x : ℕ) → byte_at k x ≡ x / 256 ^ k % 256
+byte_is zero x = simp div-one
+byte_is (suc k) x = refl
+
+pub octets-is : (n x : ℕ) → bytes_high_first n x ≡ octets n x
+unfolding octets
+octets-is zero x = refl
+octets-is (suc n) x = ap₂ ◌∷◌ (byte_is n x) (octets-is n x)
+
+-- the last of them
+drop-octets : (k n x : ℕ) → drop k (octets (k + n) x) ≡ octets n x
+unfolding octets
+drop-octets zero n x = ap (λ (j : ℕ). octets j x) (zero-add n)
+drop-octets (suc k) n x = ap (λ (j : ℕ). drop (suc k) (octets j x)) (suc-add k n) ∙ drop-octets k n x
+
+pub octets_last : (m n x : ℕ) → n ≤ m → take (m - (m - n)) (drop (m - n) (bytes_high_first m x)) ≡ octets n x
+octets_last m n x h =
+    let e : m - n + n ≡ m = omega arith in
+    let last : drop (m - n) (bytes_high_first m x) ≡ octets n x =
+    ap (drop (m - n)) (octets-is m x) ∙ ap (λ (k : ℕ). drop (m - n) (octets k x)) (sym e) ∙ drop-octets (m - n) n x in
+    rw last (take_all _ (octets n x) (omega (arith, octets-length n x)))

@@ -24,6 +24,13 @@ pub part_length : (at n : ℕ) (s : List ℕ) → at + n ≤ length s → length
 unfolding part
 part_length at n s h = simp (length-take, length-drop) (omega arith)
 
+-- as a slice `s[at..at + n]` says it
+pub part_sliced : (at n : ℕ) (s : List ℕ) → take (at + n - at) (drop at s) ≡ part at n s
+unfolding part
+part_sliced at n s =
+    let e : at + n - at ≡ n = omega arith in
+    ap (λ (k : ℕ). take k (drop at s)) e
+
 -- ---- what lies before a put, and after it
 
 pub take-put-before : (n at : ℕ) (xs s : List ℕ) → n ≤ at → take n (put at xs s) ≡ take n s

@@ -2,9 +2,7 @@
 // the first answers, and whether the second answers the same, octet for octet. `show` says how a line of a script reads.
 #![tactic(auto)]
 
-use events::Answer;
 use frame::Advanced;
-use rules::Seen;
 use show::Said;
 use std::io;
 
@@ -47,53 +45,33 @@ const ENTRIES: usize = ROWS + table::DESKS * store::ROW;
 const BEHIND: usize = ROWS + store::TABLE + 100;
 
 // The octets of a store that was made fresh, with the entries right behind the header and the rows behind them.
-fn moved(to: &mut [u8], from: &[u8]) {
-    if from.len() < store::SIZE {
-        return;
-    }
+fn moved(to: &mut [u8; store::SIZE], from: &[u8; store::SIZE]) {
     show::place(to, ROWS, &from[ENTRIES..ENTRIES + store::TABLE]);
     show::place(to, BEHIND, &from[ROWS..ENTRIES]);
-    show::place(to, 0, &octets::octets16(BEHIND as u16));
-    show::place(to, 2, &octets::octets16(ROWS as u16));
+    show::place(to, 0, &(BEHIND as u16).to_be_bytes());
+    show::place(to, 2, &(ROWS as u16).to_be_bytes());
     show::place(to, 4, &from[4..6]);
 }
 
-// A number for each answer: no reply has 1000 octets.
-fn code(a: Answer) -> usize {
-    match a {
-        Answer::Reply(n) => n,
-        Answer::Refused(r) => 1000 + r.number() as usize,
-        Answer::Sighted(s) => match s {
-            Seen::Lost => 2001,
-            Seen::Recorded => 2002,
-            Seen::Ignored(left) => 4000 + left as usize,
-        },
-        Answer::Done => 2003,
-    }
-}
-
-// The same of what was said, where it is an answer.
-fn said(s: Said) -> usize {
-    match s {
-        Said::Answer(a) => code(a),
-        Said::Count(_) => 3000,
-        Said::Nothing => 3001,
-    }
-}
-
 // Whether two answers, and the octets of the outputs, are the same.
-fn verdict(rt: &impl Print, a: Said, b: Said, out: &[u8], other_out: &[u8]) -> io::Result<()> {
-    if said(a) != said(b) {
-        return show::word(rt, b" other answer\n");
-    }
-    if show::alike(out, other_out) {
-        show::word(rt, b" same\n")
+fn verdict(
+    rt: &impl Print,
+    a: Option<Said>,
+    b: Option<Said>,
+    out: &[u8],
+    other_out: &[u8],
+) -> io::Result<()> {
+    if a != b {
+        print!(rt; " other answer\n")
+    } else if other_out.starts_with(out) {
+        print!(rt; " same\n")
     } else {
-        show::word(rt, b" other octets\n")
+        print!(rt; " other octets\n")
     }
 }
 
-// A line: what the first store says to an event, and whether the second says the same.
+// A line: what the first store says to an event, and whether the second says the same. Two stores and two outputs, lent by themselves, as the
+// calls take them.
 fn compare(
     rt: &impl Print,
     line: &[u8],
@@ -108,24 +86,6 @@ fn compare(
     verdict(rt, a, b, out, other_out)
 }
 
-fn events(
-    rt: &impl Print,
-    script: &[u8],
-    store: &mut [u8],
-    out: &mut [u8],
-    other: &mut [u8],
-    other_out: &mut [u8],
-) -> io::Result<()> {
-    let mut at: usize = 0;
-    while at < script.len() {
-        let start = at + 1;
-        let end = show::until(script, start, b'\n');
-        compare(rt, &script[start..end], store, out, other, other_out)?;
-        at = end;
-    }
-    Ok(())
-}
-
 fn main(rt: HostRuntime) -> io::Result<()> {
     let mut store = [0u8; store::SIZE];
     let mut out = [0u8; Advanced::LONGEST];
@@ -134,12 +94,7 @@ fn main(rt: HostRuntime) -> io::Result<()> {
     show::play(&rt, &MADE, &mut store, &mut out)?;
     moved(&mut other, &store);
     show::place(&mut other_out, 0, &out);
-    events(
-        &rt,
-        &EVENTS,
-        &mut store,
-        &mut out,
-        &mut other,
-        &mut other_out,
-    )
+    show::each_line(&EVENTS, |line| {
+        compare(&rt, line, &mut store, &mut out, &mut other, &mut other_out)
+    })
 }

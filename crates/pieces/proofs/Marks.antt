@@ -1,34 +1,28 @@
 -- The octets of a separator or an end: what a bit chooses, and the user's. Assumes nothing.
-use Prim.Native.Nat.{ℕ, ◌+◌, ◌≤◌}
-use mathlib.Core.Path.{◌≡◌, ap, ◌∙◌}
-use mathlib.Core.List.{List, [], ◌∷◌}
+use Prim.Native.Nat.{ℕ, ◌+◌, ◌-◌, ◌≤◌}
+use mathlib.Core.Path.{◌≡◌}
+use mathlib.Core.List.{List, []}
 use native.Mathlib.Omega.{arith}
 use lib.Count.{count_trailing_zeros}
-use lib.ListN.{length, get_or, length-take}
-use Rattle.octets.specs.Parts.{part, put}
-use Rattle.octets.proofs.Puts.{part_none, part-more}
+use lib.Dec.{lit≤}
+use lib.ListN.{length, get_or, take, drop}
+use Rattle.octets.specs.Parts.{part}
+use Rattle.octets.proofs.Each.{all-get_or}
 use Rattle.rules.specs.Line.{marks, mark_of}
-use Rattle.pieces.specs.declared.Mark.{Mark}
-use Rattle.pieces.specs.Pieces.{Holds}
 
 -- bit k is the lowest that is set
-pub chosen : (m : Mark) (char : ℕ) (user : List ℕ) (k : ℕ) → count_trailing_zeros 8 char ≡ k → Holds m (get_or (marks user) k []) → Holds m (mark_of char user)
+pub chosen : (char : ℕ) (user t : List ℕ) (k : ℕ) → count_trailing_zeros 8 char ≡ k → t ≡ get_or (marks user) k [] → t ≡ mark_of char user
 unfolding mark_of
-chosen m char user k e h = rw e h
+chosen char user t k e h = rw e h
 
--- what is held lies within the three octets
-pub held-inside : (m : Mark) (t : List ℕ) → Holds m t → m.len ≤ length m.octets
+pub mark-small : (char : ℕ) (user : List ℕ) → length user ≤ 3 → length (mark_of char user) ≤ 3
+unfolding mark_of marks
+mark-small char user h =
+    all-get_or (λ (s : List ℕ). length s ≤ 3) (marks user) (count_trailing_zeros 8 char) [] (lit≤ tt, (lit≤ tt, (lit≤ tt, (lit≤ tt, (lit≤ tt, (lit≤ tt, (lit≤ tt, (h, tt)))))))) (lit≤ tt)
+
+-- a slice from at to at + n is a part
+pub cut : (at n : ℕ) (s : List ℕ) → take (at + n - at) (drop at s) ≡ part at n s
 unfolding part
-held-inside m t h = omega (arith, ap length h.text, length-take m.len m.octets, h.size)
-
--- and a put of it is a put of what is held
-pub held-put : (m : Mark) (t : List ℕ) (at r : ℕ) (out out' : List ℕ) → Holds m t → r ≡ at + m.len → out' ≡ put at (part 0 m.len m.octets) out
-    → (r ≡ at + length t) × (out' ≡ put at t out)
-held-put m t at r out out' h e p = (omega (arith, h.size), p ∙ ap (λ (l : List ℕ). put at l out) h.text)
-
--- one octet of a buffer, and three
-pub part-one : (at : ℕ) (s : List ℕ) → at + 1 ≤ length s → part at 1 s ≡ get_or s (at + 0) 0 ∷ []
-part-one at s h = part-more at 0 s (omega arith) ∙ rw part_none
-
-pub part-three : (at : ℕ) (s : List ℕ) → at + 3 ≤ length s → part at 3 s ≡ get_or s (at + 0) 0 ∷ get_or s (at + 1) 0 ∷ get_or s (at + 2) 0 ∷ []
-part-three at s h = part-more at 2 s (omega arith) ∙ rw (part-more at 1 s (omega arith), part-one at s (omega arith))
+cut at n s =
+    let e : at + n - at ≡ n = omega arith in
+    rw e

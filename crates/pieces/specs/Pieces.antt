@@ -1,14 +1,6 @@
--- The pieces of a scan line, as the code holds them. Assumes nothing.
-use Rattle.std.specs.Prelude.{ℕ, ◌+◌, ◌*◌, ◌≤◌, cond, List, ◌≡◌, length, get_or, eqb}
-use Rattle.octets.specs.Parts.{part}
+-- How long the pieces of a scan line are. Assumes nothing.
+use Rattle.std.specs.Prelude.{ℕ, ◌+◌, ◌*◌, cond, List, length, get_or, eqb}
 use Rattle.rules.specs.Line.{heading, separator, ending}
-use Rattle.pieces.specs.declared.Mark.{Mark}
-
--- the first len of the three octets are t
-pub record Holds (m : Mark) (t : List ℕ) : Type 0 where
-  pub small : m.len ≤ 3
-  pub size : m.len ≡ length t
-  pub text : part 0 m.len m.octets ≡ t
 
 -- how many octets show one
 unfoldable pub shown_width : ℕ → ℕ

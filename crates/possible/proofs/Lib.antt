@@ -1,4 +1,3 @@
-pub mod Chances
 pub mod Answers
 pub mod Witness
 pub mod Given

@@ -14,15 +14,14 @@ use rules::BLOCK;
 use ruling::adr::{block_of, password_in_ram};
 use ruling::{most_sent, no_desk, records_for};
 
+#[tactic(auto, unfolding(crate::specs::Possible::pair))]
 fn is_pair(wanted: u8, size: usize, status: u8, len: usize) -> bool
     ensures { result ≡ pair wanted size status len }
 {
-    if status != wanted {
-        return false;
-    }
-    len == size
+    status == wanted && len == size
 }
 
+#[tactic(auto, unfolding(crate::specs::Possible::plain))]
 fn is_plain(wanted: u8, status: u8, len: usize) -> bool
     ensures { result ≡ plain wanted status len }
 {
@@ -33,65 +32,39 @@ fn is_plain(wanted: u8, status: u8, len: usize) -> bool
 fn held_for(k: u64) -> usize
     ensures { result ≡ min k share }
 {
-    if k < table::SHARE as u64 {
-        return k as usize;
-    }
-    table::SHARE as usize
+    k.min(table::SHARE as u64) as usize
 }
 
 // Whether a status goes with n records.
+#[tactic(auto, unfolding(crate::specs::Possible::status_may))]
 fn status_may(wanted: usize, fit: usize, n: usize, status: u8) -> bool
     ensures { result ≡ status_may wanted fit n status }
 {
-    if status == 0x00 {
-        return true;
-    }
-    if status == 0x93 {
-        if wanted < fit {
-            return n == wanted;
-        }
-        return n == fit;
-    }
-    if status != 0x94 {
-        return false;
-    }
-    if n != fit {
-        return false;
-    }
-    n < wanted
+    status == 0x00
+        || status == 0x93 && n == wanted.min(fit)
+        || status == 0x94 && n == fit && n < wanted
 }
 
 // Whether 0x22 can answer so with records.
-#[tactic(auto, using(crate::proofs::Chances::no_room))]
+#[tactic(auto, unfolding(crate::specs::Possible::records_may))]
 fn records_may(kind: Kind, k: u64, status: u8, len: usize) -> bool
     ensures { result ≡ records_may kind k status len }
 {
     let n = records_for(len);
-    if len != 2 + n * table::RECORD {
-        return false;
-    }
-    if n == 0 {
-        return false;
-    }
     let wanted = held_for(k);
-    if wanted < n {
-        return false;
-    }
     let fit = most_sent(kind);
-    if fit < n {
-        return false;
-    }
-    status_may(wanted, fit, n, status)
+    len == 2 + n * table::RECORD
+        && 0 < n
+        && n <= wanted
+        && n <= fit
+        && status_may(wanted, fit, n, status)
 }
 
 // Whether 0x22 can answer so.
 fn read_may(kind: Kind, k: u64, status: u8, len: usize) -> bool
     ensures { result ≡ (plain 0x92 status len || records_may kind k status len) }
 {
-    if is_plain(0x92, status, len) {
-        return true;
-    }
-    records_may(kind, k, status, len)
+    is_plain(0x92, status, len) || records_may(kind, k, status, len)
 }
 
 // Whether 0x80 can answer so.
@@ -99,9 +72,10 @@ fn block_may(adr: u8, status: u8, len: usize) -> bool
     ensures { result ≡ cond (eqb (block_of adr) 0) (plain 0x15 status len) (pair 0x00 block_size status len) }
 {
     if block_of(adr) == 0 {
-        return is_plain(0x15, status, len);
+        is_plain(0x15, status, len)
+    } else {
+        is_pair(0x00, BLOCK, status, len)
     }
-    is_pair(0x00, BLOCK, status, len)
 }
 
 // Whether 0x81 can answer so.
@@ -109,22 +83,21 @@ fn write_may(adr: u8, status: u8, len: usize) -> bool
     ensures { result ≡ cond (password_in_ram adr) (plain 0x16 status len) (plain 0x00 status len) }
 {
     if password_in_ram(adr) {
-        return is_plain(0x16, status, len);
+        is_plain(0x16, status, len)
+    } else {
+        is_plain(0x00, status, len)
     }
-    is_plain(0x00, status, len)
 }
 
 // Whether 0xA0 can answer so.
 fn login_may(status: u8, len: usize) -> bool
     ensures { result ≡ (plain 0x00 status len || plain 0x14 status len) }
 {
-    if is_plain(0x00, status, len) {
-        return true;
-    }
-    is_plain(0x14, status, len)
+    is_plain(0x00, status, len) || is_plain(0x14, status, len)
 }
 
 // What a logged-in desk can answer, where it does not answer 0x11.
+// One arm a command, in the paper's order: the wire has these commands alone, and a match over the enum is checked to be whole.
 fn is_allowed(kind: Kind, ask: Ask, status: u8, len: usize) -> bool
     requires { fields_hold ask ≡ true }
     ensures { result ≡ allowed kind ask status len }
@@ -151,38 +124,28 @@ fn is_allowed(kind: Kind, ask: Ask, status: u8, len: usize) -> bool
 fn is_barred(ask: Ask, status: u8, len: usize) -> bool
     ensures { result ≡ (needs_login ask && plain 0x13 status len) }
 {
-    if !needs_login(ask) {
-        return false;
-    }
-    is_plain(0x13, status, len)
+    needs_login(ask) && is_plain(0x13, status, len)
 }
 
 // That; then 0x11, or what is allowed.
+#[tactic(auto, unfolding(crate::specs::Possible::may_answer))]
 fn may_answer(q: Request, status: u8, len: usize) -> bool
     requires { fields_hold q.ask ≡ true }
     ensures { result ≡ may_answer q status len }
 {
-    let kind = q.kind;
-    let ask = q.ask;
-    if is_barred(ask, status, len) {
-        return true;
+    if is_barred(q.ask, status, len) {
+        true
+    } else if is_denied(q) {
+        is_plain(0x11, status, len)
+    } else {
+        is_allowed(q.kind, q.ask, status, len)
     }
-    if is_denied(q) {
-        return is_plain(0x11, status, len);
-    }
-    is_allowed(kind, ask, status, len)
 }
 
 // Whether some sound store makes the box answer the request so.
+#[tactic(auto, unfolding(crate::specs::Possible::possible))]
 pub fn is_possible(q: Request, status: u8, len: usize) -> bool
     ensures { result ≡ possible q status len }
 {
-    if no_desk(q.desk) {
-        return false;
-    }
-    let ask = q.ask;
-    if !fields_hold(ask) {
-        return false;
-    }
-    may_answer(q, status, len)
+    !no_desk(q.desk) && fields_hold(q.ask) && may_answer(q, status, len)
 }

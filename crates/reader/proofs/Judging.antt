@@ -1,21 +1,25 @@
 -- What the reader answers, from the judge's verdict and from the tests that led there. Assumes nothing.
-use Prim.Native.Nat.{ℕ, ◌+◌, ◌*◌, ◌<◌, ◌≤◌}
-use mathlib.Core.Path.{◌≡◌, sym, ap, ◌∙◌}
-use mathlib.Core.Bool.{true, false, not}
+use Prim.Native.Nat.{ℕ, ◌+◌, ◌*◌, ◌≤◌}
+use denote.Enum.Bare.{sameb}
+use mathlib.Core.Path.{◌≡◌, refl, sym, ap, ◌∙◌}
+use mathlib.Core.Bool.{Bool, true, false, not}
 use mathlib.Core.List.{List, [], ◌∷◌}
 use native.Mathlib.Omega.{arith}
-use lib.ListN.{length}
 use lib.Dec.{eqb}
+use lib.ListN.{length}
 use borrow.Author.Tests.{eq-eqb, ne_eqb}
-use Rattle.octets.specs.Tests.{first}
 use Rattle.octets.specs.Numbers.{u16_at}
+use Rattle.table.specs.Entries.{record_width}
+use Rattle.octets.specs.Tests.{first}
 use Rattle.octets.proofs.Tests.{first-none, first-given}
+use Rattle.frame.specs.contracts.Kind.{the_type}
+use Rattle.frame.specs.declared.Kind.{Kind}
+use Rattle.frame.specs.declared.Kind.TheVariants.{Standard, Advanced}
 use Rattle.frame.specs.declared.Way.TheVariants.{Reply}
 use Rattle.frame.specs.declared.Frame.{Frame}
 use Rattle.frame.specs.Finding.{refused, found}
 use Rattle.frame.specs.Judged.{faults, parts_of, data_of, judged}
 use Rattle.frame.proofs.Verdict.{sound-parts, sound-first, refused-first}
-use Rattle.table.specs.Entries.{record_width}
 use Rattle.requests.specs.declared.Request.{Request}
 use Rattle.requests.specs.Request.{control_of}
 use Rattle.possible.specs.Possible.{possible}
@@ -50,26 +54,22 @@ reply-start s f is = rw (sound-parts Reply s f is) (omega arith)
 
 -- ---- the count
 
-module _ (control : ℕ) (sent : List ℕ) where
-  pub count-free : (control ≡ 0x22 → ⊥) → true ≡ count_right control sent
-  unfolding count_right
-  count-free h = rw (ne_eqb _ _ h)
-
-  module _ (is : control ≡ 0x22) where
-    pub count_none : length sent ≡ 0 → true ≡ count_right control sent
-    unfolding count_right
-    count_none e = rw (is, eq-eqb _ _ e)
-
-    module _ (some : length sent ≡ 0 → ⊥) where
-      pub count-short : length sent < 2 → false ≡ count_right control sent
-      unfolding count_right
-      count-short h = rw (is, ne_eqb _ _ some, ne_eqb (length sent) (2 + u16_at 0 sent * record_width) (λ e. omega arith))
-
-      pub count-said : (n : ℕ) → n ≡ u16_at 0 sent → eqb (length sent) (2 + n * record_width) ≡ count_right control sent
-      unfolding count_right
-      count-said n e = rw (is, ne_eqb _ _ some, e)
+pub count-said : (control : ℕ) (sent : List ℕ) (n : ℕ) → control ≡ 0x22 → 2 ≤ length sent → n ≡ u16_at 0 sent → eqb (length sent) (2 + n * record_width) ≡ count_right control sent
+unfolding count_right
+count-said control sent n is long e = rw (is, ne_eqb (length sent) 0 (λ z. omega arith), e)
 
 -- ---- the tests of a sound frame, one after the other
+
+-- whether two kinds are one, as derived
+pub kinds-same : (a b : Kind) → sameb the_type a b ≡ same_kind a b
+kinds-same Standard Standard = refl
+kinds-same Standard Advanced = refl
+kinds-same Advanced Standard = refl
+kinds-same Advanced Advanced = refl
+
+pub not_true : (b : Bool) → not b ≡ true → b ≡ false
+not_true true e = sym e
+not_true false e = refl
 
 module _ (q : Request) (f : Frame) (s : List ℕ) where
   pub other-kind : same_kind f.kind q.kind ≡ false → false ≡ answers_to q f s

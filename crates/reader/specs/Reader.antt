@@ -6,16 +6,13 @@ use Rattle.frame.specs.declared.Kind.{Kind}
 use Rattle.frame.specs.declared.Kind.TheVariants.{Standard, Advanced}
 use Rattle.frame.specs.declared.Way.TheVariants.{Reply}
 use Rattle.frame.specs.declared.Frame.{Frame}
-use Rattle.frame.specs.Refusal.{number_of}
-use Rattle.frame.specs.Finding.{Finding, refused, found, finding}
+use Rattle.frame.specs.Finding.{Finding, finding}
 use Rattle.frame.specs.Judged.{faults, parts_of, data_of}
 use Rattle.table.specs.Entries.{record_width}
 use Rattle.requests.specs.declared.Request.{Request}
 use Rattle.requests.specs.Request.{control_of}
 use Rattle.possible.specs.Possible.{possible}
 use Rattle.reader.specs.declared.Told.{Told}
-use Rattle.reader.specs.declared.Reading.{Reading}
-use Rattle.reader.specs.declared.Reading.TheVariants.{Sound, Refused}
 
 abbrev pub same_kind : Kind → Kind → Bool
 same_kind Standard Standard = true
@@ -44,8 +41,3 @@ reader_refusals q s = faults Reply s ++ ((8, not (answers_to q (parts_of Reply s
 -- what is read: refused with the paper's number; or status, and where the data lie
 unfoldable pub read_as : Request → List ℕ → Finding Told
 read_as q s = finding (first (reader_refusals q s)) (told_of (parts_of Reply s) s)
-
--- what the code's answer says of it
-abbrev pub finding_of : Reading → Finding Told
-finding_of (Sound t) = found t
-finding_of (Refused r) = refused (number_of r)

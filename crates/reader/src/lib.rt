@@ -4,16 +4,16 @@
 ghost use Rattle.std.specs.Prelude.{◌≡◌};
 ghost use Rattle.frame.specs.declared.Way.{Way};
 ghost use Rattle.frame.specs.Shape.{frame_with};
-ghost use Rattle.frame.specs.Finding.{Finding};
+ghost use Rattle.frame.specs.Finding.{Finding, verdict_of};
 ghost use Rattle.frame.specs.Judged.{judged};
 ghost use Rattle.requests.specs.Request.{control_of};
-ghost use Rattle.reader.specs.Reader.{same_kind, told_of, count_right, answers_to, read_as, finding_of};
+ghost use Rattle.reader.specs.Reader.{told_of, count_right, answers_to, read_as};
 
-use frame::{Advanced, Frame, Judged, Kind, Refusal, Standard, Way};
+use frame::{Advanced, Frame, Kind, Refusal, Standard, Way};
 use possible::is_possible;
 use requests::{Request, control_of};
 
-// A reply's status, and where its data lie.
+// A reply's status, and where its data lie: a place and no slice, since the C interface tells it in numbers.
 #[derive(Clone, Copy)]
 pub struct Told {
     pub status: u8,
@@ -21,41 +21,14 @@ pub struct Told {
     pub len: usize,
 }
 
-#[derive(Clone, Copy)]
-pub enum Reading {
-    Sound(Told),
-    Refused(Refusal),
-}
-
-fn same_kind(a: Kind, b: Kind) -> bool
-    ensures { result ≡ same_kind a b }
-{
-    match a {
-        Kind::Standard => match b {
-            Kind::Standard => true,
-            Kind::Advanced => false,
-        },
-        Kind::Advanced => match b {
-            Kind::Standard => false,
-            Kind::Advanced => true,
-        },
-    }
-}
-
 // Whether the count that the data of a 0x22 reply begin with is allowed by their length.
+#[tactic(auto, unfolding(crate::specs::Reader::count_right))]
 fn count_right(control: u8, sent: &[u8]) -> bool
     ensures { result ≡ count_right control sent.now }
 {
-    if control != 0x22 {
-        return true;
-    }
-    if sent.len() == 0 {
-        return true;
-    }
-    if sent.len() < 2 {
-        return false;
-    }
-    sent.len() == 2 + octets::get16(sent, 0) as usize * table::RECORD
+    control != 0x22
+        || sent.is_empty()
+        || 2 <= sent.len() && sent.len() == 2 + octets::get16(sent, 0) as usize * table::RECORD
 }
 
 // The status, and where the data lie, of a sound frame.
@@ -63,22 +36,20 @@ fn told_of(f: Frame, reply: &[u8]) -> Told
     requires { judged Way.Reply reply.now ≡ Finding.found f }
     ensures { result ≡ told_of f reply.now }
 {
-    let start = f.start;
     Told {
-        status: reply[start - 1],
-        start: start,
+        status: reply[f.start - 1],
+        start: f.start,
         len: f.len,
     }
 }
 
-// The frame that answers the request from that address, with len octets of data.
+// The frame that answers the request from that address, with len octets of data; the constructors of both kinds are named here, a form of
+// the paper.
 fn reply_to(q: Request, address: u8, len: usize) -> Frame
     ensures { result ≡ frame_with Way.Reply q.kind address (control_of q.ask) len }
 {
-    let ask = q.ask;
-    let control = control_of(ask);
-    let kind = q.kind;
-    match kind {
+    let control = control_of(q.ask);
+    match q.kind {
         Kind::Standard => Standard::frame(Way::Reply, address, control, len),
         Kind::Advanced => Advanced::frame(Way::Reply, address, control, len),
     }
@@ -89,10 +60,9 @@ fn answers_to(q: Request, f: Frame, t: Told, reply: &[u8]) -> bool
     requires { (judged Way.Reply reply.now ≡ Finding.found f) × (t ≡ told_of f reply.now) }
     ensures { result ≡ answers_to q f reply.now }
 {
+    // Tried as one chain of &&: no proof closed where it returns what is_possible told.
     let wanted = reply_to(q, f.address, f.len);
-    let kind = f.kind;
-    let asked = wanted.kind;
-    if !same_kind(kind, asked) {
+    if f.kind != wanted.kind {
         return false;
     }
     if f.address as u64 != q.desk {
@@ -104,29 +74,17 @@ fn answers_to(q: Request, f: Frame, t: Told, reply: &[u8]) -> bool
     if !is_possible(q, t.status, f.len) {
         return false;
     }
-    let start = f.start;
-    let end = start + f.len;
-    count_right(f.control, &reply[start..end])
-}
-
-// A sound frame is the reply, or it is refused.
-fn read_sound(q: Request, f: Frame, reply: &[u8]) -> Reading
-    requires { judged Way.Reply reply.now ≡ Finding.found f }
-    ensures { finding_of result ≡ read_as q reply.now }
-{
-    let t = told_of(f, reply);
-    if answers_to(q, f, t, reply) {
-        return Reading::Sound(t);
-    }
-    Reading::Refused(Refusal::NotTheReply)
+    count_right(f.control, &reply[f.start..f.start + f.len])
 }
 
 // Reads the reply to a request.
-pub fn read(q: Request, reply: &[u8]) -> Reading
-    ensures { finding_of result ≡ read_as q reply.now }
+pub fn read(q: Request, reply: &[u8]) -> Result<Told, Refusal>
+    ensures { verdict_of result ≡ read_as q reply.now }
 {
-    match frame::judge(Way::Reply, reply) {
-        Judged::Refused(r) => Reading::Refused(r),
-        Judged::Sound(f) => read_sound(q, f, reply),
+    let f = frame::judge(Way::Reply, reply)?;
+    let t = told_of(f, reply);
+    if !answers_to(q, f, t, reply) {
+        return Err(Refusal::NotTheReply);
     }
+    Ok(t)
 }

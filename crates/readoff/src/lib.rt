@@ -7,7 +7,6 @@ ghost use Rattle.readoff.specs.ReadOff.{ReadOff};
 
 use answering::{framed, other};
 use feeding::Begun;
-use octets::least;
 use text::print::not_read;
 
 // Answers the line that was fed: the box is called, and what is to be printed stands at the start of the output.
@@ -21,15 +20,16 @@ pub fn answer(
     requires { longest_line ≤ length out.old }
     ensures { ReadOff state held.now store.old reply.old out.old result store.new reply.new out.new }
 {
-    let n = least(state.held, held.len());
+    let n = state.held.min(held.len());
     if state.bad {
         if state.over {
-            return not_read(out);
+            not_read(out)
+        } else {
+            other(&held[..n], store, reply, out)
         }
-        return other(&held[..n], store, reply, out);
+    } else if state.odd {
+        not_read(out)
+    } else {
+        framed(&held[..n], store, reply, out)
     }
-    if state.odd {
-        return not_read(out);
-    }
-    framed(&held[..n], store, reply, out)
 }

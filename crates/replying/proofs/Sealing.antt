@@ -1,4 +1,5 @@
 -- A reply is sealed around the data that stand at their place, and the octets after it stay. Assumes nothing.
+use Rattle.std.specs.Prelude.{Some, None}
 use Prim.Native.Nat.{ℕ, ◌+◌, ◌≤◌, ◌<◌}
 use mathlib.Core.Path.{◌≡◌, ap, ◌∙◌}
 use mathlib.Core.Bool.{true}
@@ -17,7 +18,6 @@ use Rattle.frame.specs.Sealed.{frame_of}
 use Rattle.frame.proofs.Bounds.{longest-fits}
 use Rattle.frame.proofs.Lengths.{length-frame}
 use Rattle.frame.proofs.Verdict.{sound-parts}
-use Rattle.seal.specs.declared.Sealed.TheVariants.{Octets, Not}
 use Rattle.seal.specs.Buffer.{fits_in, sealed_as, reply_in}
 use Rattle.seal.proofs.Room.{fits_in_lem}
 use Rattle.table.specs.Entries.{desks}
@@ -40,9 +40,9 @@ module _ (k : Kind) (adr ctl status : ℕ) (sent out out' : List ℕ) (room : re
   fits : fits_in Reply k (length sent) (length out') ≡ true
   fits = fits_in_lem Reply k (length sent) (length out') small (omega (arith, size, longest-fits k))
 
-  pub reply-size : sealed_as Reply k (length sent) out' ≡ Octets (length (frame_of k adr ctl (status ∷ sent)))
+  pub reply-size : sealed_as Reply k (length sent) out' ≡ Some (length (frame_of k adr ctl (status ∷ sent)))
   unfolding sealed_as
-  reply-size = rw (fits, length-frame k adr ctl (status ∷ sent)) (ap Octets (omega arith))
+  reply-size = rw (fits, length-frame k adr ctl (status ∷ sent)) (ap Some (omega arith))
 
   pub reply-octets : reply_in k adr ctl status (length sent) out' ≡ put 0 (frame_of k adr ctl (status ∷ sent)) out
   unfolding reply_in
@@ -67,13 +67,13 @@ module _ (f s s' out out' body : List ℕ) (p : Frame) (r : DeskReply) (q : soun
   unfolding answered
   small = (obey-carried (known p.control) p.kind (kept p.address s) body (kept-legal s q p.address low)).small
 
-  whole : sealed_as Reply p.kind r.len out' ≡ Octets (length framed)
+  whole : sealed_as Reply p.kind r.len out' ≡ Some (length framed)
   whole = rw y.told.len_is (reply-size p.kind p.address p.control res.status res.sent out out' room small y.told.out-is)
 
-  pub never-not : sealed_as Reply p.kind r.len out' ≡ Not → ⊥
+  pub never-not : sealed_as Reply p.kind r.len out' ≡ None → ⊥
   never-not e = let z : ◌≡◌ {A = ℕ} 0 1 = cc whole in omega arith
 
-  pub replied : (n : ℕ) (out'' : List ℕ) → sealed_as Reply p.kind r.len out' ≡ Octets n
+  pub replied : (n : ℕ) (out'' : List ℕ) → sealed_as Reply p.kind r.len out' ≡ Some n
       → out'' ≡ reply_in p.kind p.address p.control r.status r.len out' → Replied f s out n s' out''
   unfolding served request
   replied n out'' e o =

@@ -1,4 +1,5 @@
 // A desk's answer to a well-formed frame, sealed as a reply at the start of the output.
+// Each asks for a sound store: a struct around the store, which workers write to, would owe the clause that its field is still that reference.
 #![tactic(auto)]
 
 ghost use Rattle.std.specs.Prelude.{◌≡◌, true, ◌≤◌, ◌<◌, length};
@@ -11,7 +12,7 @@ ghost use Rattle.store.specs.Sound.{sound};
 ghost use Rattle.replying.specs.Replied.{Replied};
 
 use frame::Frame;
-use seal::Sealed;
+use keeping::desk_number::DeskNumber;
 
 // The desk that the frame names answers it; how many octets the reply has.
 pub fn reply(store: &mut [u8], frame: &[u8], f: Frame, out: &mut [u8]) -> usize
@@ -24,14 +25,14 @@ pub fn reply(store: &mut [u8], frame: &[u8], f: Frame, out: &mut [u8]) -> usize
     let kind = f.kind;
     let r = desk::serve(
         store,
-        address as usize,
+        DeskNumber { number: address },
         kind,
         f.control,
         &frame[start..end],
         out,
     );
     match seal::seal_reply(out, kind, address, f.control, r.status, r.len) {
-        Sealed::Octets(n) => n,
-        Sealed::Not => 0,
+        Some(n) => n,
+        None => 0,
     }
 }

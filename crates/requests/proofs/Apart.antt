@@ -1,4 +1,5 @@
 -- Two different requests never give the same octets. Assumes nothing.
+use Rattle.std.specs.Prelude.{Some, None}
 use Prim.Native.Nat.{ℕ}
 use mathlib.Core.Path.{◌≡◌, refl, sym, ap, ◌∙◌}
 use mathlib.Core.Bool.{true, ◌&&◌}
@@ -15,9 +16,7 @@ use Rattle.rules.specs.declared.control.Command.{Command}
 use Rattle.rules.specs.declared.control.Command.TheVariants.{OnRow, OnTable}
 use Rattle.rules.specs.declared.control.RowCommand.TheVariants as row
 use Rattle.rules.specs.declared.control.TableCommand.TheVariants as table
-use Rattle.rules.specs.declared.control.Known.{Known}
-use Rattle.rules.specs.declared.control.Known.TheVariants.{Listed, Unknown}
-use Rattle.rules.specs.Control.{known}
+use Rattle.rules.specs.Control.{Known, known}
 use Rattle.rules.proofs.Commands.{control-finds}
 use Rattle.requests.specs.declared.Ask.{Ask}
 use Rattle.requests.specs.declared.Ask.TheVariants.{Baud, Reset, SystemReset, ReadBlock, WriteBlock, SaveBlocks, RestoreBlocks, SetTimer, SendTimer, Login, ReadRecords, SendTable, RemoveRecords, ClearRecords}
@@ -60,8 +59,8 @@ ask-back ClearRecords bytes e = refl
 
 -- the command of a known control byte
 command_in : Known → Command
-command_in (Listed t) = t.command
-command_in Unknown = OnRow row.Reset
+command_in (Some t) = t.command
+command_in None = OnRow row.Reset
 
 same-command : (a b : Ask) → control_of a ≡ control_of b → command_of a ≡ command_of b
 unfolding command_in

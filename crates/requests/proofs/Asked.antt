@@ -1,5 +1,6 @@
 -- What a desk does with a request: its control byte is known and its length right, so login comes first and then the command's own rule.
 -- Assumes nothing.
+use Rattle.std.specs.Prelude.{Some}
 use Prim.Native.Nat.{ℕ}
 use mathlib.Core.Path.{◌≡◌, refl, ap, ◌∙◌}
 use mathlib.Core.Bool.{true, false, not, ◌&&◌}
@@ -9,7 +10,6 @@ use lib.ListN.{length}
 use borrow.Author.Tests.{eq-eqb}
 use Rattle.octets.specs.Tests.{first}
 use Rattle.octets.proofs.Numbers.{octets-length}
-use Rattle.rules.specs.declared.control.Known.TheVariants.{Listed}
 use Rattle.rules.specs.Config.{block_size}
 use Rattle.rules.specs.Control.{terms_of, sized_for}
 use Rattle.rules.proofs.Commands.{control-finds}
@@ -49,7 +49,7 @@ abbrev pub own_answer : Request → Desk → Result
 own_answer q d = unless (first (own_tests (command_of q.ask) q.kind d (data_for q))) d (effect (command_of q.ask) q.kind d (data_for q))
 
 module _ (q : Request) (d : Desk) (size : length q.bytes ≡ block_size) where
-  in_order : answer_to q d ≡ obey (Listed (terms_of (command_of q.ask))) q.kind d (data_for q)
+  in_order : answer_to q d ≡ obey (Some (terms_of (command_of q.ask))) q.kind d (data_for q)
   unfolding answered
   in_order = ap (λ r. obey r q.kind d (data_for q)) (control-finds (command_of q.ask))
 

@@ -41,6 +41,7 @@ pub struct Request {
 }
 
 // The command that is asked.
+// One arm a command, in the paper's order: the wire has these commands alone, and a match over the enum is checked to be whole.
 pub fn command_of(ask: Ask) -> Command
     ensures { result ≡ command_of ask }
 {

@@ -1,5 +1,5 @@
 // Whether the values of a request are in range.
-ghost use Rattle.std.specs.Prelude.{◌≡◌, true, not, ◌&&◌, ◌||◌, ltb};
+ghost use Rattle.std.specs.Prelude.{◌≡◌, true, not, ◌&&◌, ◌||◌};
 ghost use Rattle.timer.specs.declared.Timer.{Timer};
 ghost use Rattle.timer.specs.Clock.{timer_legal};
 ghost use Rattle.rules.specs.Config.{in_eeprom, block_of, names_one, names_some, bytes_unfit};
@@ -10,18 +10,8 @@ use rules::BLOCK;
 use ruling::adr::{block_of, in_eeprom, names_one, names_some};
 use timer::Timer;
 
-fn timer_holds(h: u64, m: u64, ms: u64) -> bool
-    ensures { result ≡ (ltb h 256 && ltb m 256 && ltb ms 65536) }
-{
-    if h < 256 {
-        if m < 256 {
-            return ms < 65536;
-        }
-    }
-    false
-}
-
 // Whether its field can hold each value.
+// Here and below one arm a command, in the paper's order: the wire has these commands alone, and a match over the enum is checked to be whole.
 pub fn fields_hold(ask: Ask) -> bool
     ensures { result ≡ fields_hold ask }
 {
@@ -33,9 +23,9 @@ pub fn fields_hold(ask: Ask) -> bool
         Ask::WriteBlock(adr) => adr < 256,
         Ask::SaveBlocks(adr) => adr < 256,
         Ask::RestoreBlocks(adr) => adr < 256,
-        Ask::SetTimer(h, m, ms) => timer_holds(h, m, ms),
+        Ask::SetTimer(h, m, ms) => h < 256 && m < 256 && ms < 65536,
         Ask::SendTimer => true,
-        Ask::Login(password) => password < 4294967296,
+        Ask::Login(password) => password < 1 << 32,
         Ask::ReadRecords(k) => k < 65536,
         Ask::SendTable => true,
         Ask::RemoveRecords => true,
@@ -47,23 +37,16 @@ pub fn fields_hold(ask: Ask) -> bool
 fn save_denied(adr: u8) -> bool
     ensures { result ≡ (in_eeprom adr || not (names_some adr)) }
 {
-    if in_eeprom(adr) {
-        return true;
-    }
-    !names_some(adr)
+    in_eeprom(adr) || !names_some(adr)
 }
 
 // What 0x81 answers 0x11.
+#[tactic(auto, unfolding(rules::specs::Config::line_legal))]
 fn write_denied(adr: u8, bytes: [u8; BLOCK]) -> bool
     ensures { result ≡ (not (names_one adr) || bytes_unfit (block_of adr) bytes) }
 {
-    if !names_one(adr) {
-        return true;
-    }
-    if block_of(adr) != 7 {
-        return false;
-    }
-    !ruling::shape_legal(bytes[0], bytes[1], bytes[3], bytes[13])
+    !names_one(adr)
+        || block_of(adr) == 7 && !ruling::shape_legal(bytes[0], bytes[1], bytes[3], bytes[13])
 }
 
 // Whether a logged-in desk would answer 0x11.
@@ -71,14 +54,12 @@ pub fn is_denied(q: Request) -> bool
     requires { fields_hold q.ask ≡ true }
     ensures { result ≡ denied q }
 {
-    let ask = q.ask;
-    let bytes = q.bytes;
-    match ask {
+    match q.ask {
         Ask::Baud(n) => n != 0,
         Ask::Reset => false,
         Ask::SystemReset => false,
         Ask::ReadBlock(adr) => !names_one(adr as u8),
-        Ask::WriteBlock(adr) => write_denied(adr as u8, bytes),
+        Ask::WriteBlock(adr) => write_denied(adr as u8, q.bytes),
         Ask::SaveBlocks(adr) => save_denied(adr as u8),
         Ask::RestoreBlocks(adr) => !names_some(adr as u8),
         Ask::SetTimer(h, m, ms) => {
@@ -98,12 +79,9 @@ pub fn is_denied(q: Request) -> bool
 }
 
 // Whether each value is one that its field can hold and that a logged-in desk would not answer 0x11.
+#[tactic(auto, unfolding(crate::specs::Request::in_range))]
 pub fn in_range(q: Request) -> bool
     ensures { result ≡ in_range q }
 {
-    let ask = q.ask;
-    if !fields_hold(ask) {
-        return false;
-    }
-    !is_denied(q)
+    fields_hold(q.ask) && !is_denied(q)
 }

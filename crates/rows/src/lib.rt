@@ -2,7 +2,7 @@
 // specs/Row.
 #![tactic(auto)]
 
-ghost use Rattle.std.specs.Prelude.{◌≡◌, cond, ◌≤◌, ◌<◌, length, get_or};
+ghost use Rattle.std.specs.Prelude.{◌≡◌, ◌≤◌, ◌<◌, length, get_or};
 ghost use Rattle.locks.specs.Locks.{most_locks};
 ghost use Rattle.store.specs.Layout.{row_width};
 ghost use Rattle.store.specs.Rows.{count_at};
@@ -12,17 +12,20 @@ ghost use Rattle.rules.specs.Config.{block_size, block_count, memory_size, block
 use rules::{BLOCK, MEMORY};
 use store::{EEPROM, LOCKED, LOCKS, LOGIN, RAM, TIMER, VALID};
 
+// The octets of a desk's row, lent where they lie. That a count of locks or a block is in range is asked beside them: a struct would have to
+// copy the row to keep it.
+pub type DeskRow = [u8; store::ROW];
+
 // No locks stand.
-pub fn clear_locks(row: &mut [u8])
-    requires { length row.old ≡ row_width }
+pub fn clear_locks(row: &mut DeskRow)
     ensures { row.new ≡ unlocked_row row.old }
 {
     row[LOCKED] = 0;
 }
 
 // A new lock of VALID-TIME ticks; where 64 stand, the oldest gives way.
-pub fn add_lock(row: &mut [u8], uid: u64)
-    requires { (length row.old ≡ row_width) × (get_or row.old count_at 0 ≤ most_locks) }
+pub fn add_lock(row: &mut DeskRow, uid: u64)
+    requires { get_or row.old count_at 0 ≤ most_locks }
     ensures { row.new ≡ locked_row uid row.old }
 {
     let n = row[LOCKED] as usize;
@@ -32,8 +35,8 @@ pub fn add_lock(row: &mut [u8], uid: u64)
 }
 
 // Each lock loses a tick, and goes at zero.
-pub fn tick_locks(row: &mut [u8])
-    requires { (length row.old ≡ row_width) × (get_or row.old count_at 0 ≤ most_locks) }
+pub fn tick_locks(row: &mut DeskRow)
+    requires { get_or row.old count_at 0 ≤ most_locks }
     ensures { row.new ≡ swept_row row.old }
 {
     let n = row[LOCKED] as usize;
@@ -42,25 +45,18 @@ pub fn tick_locks(row: &mut [u8])
 }
 
 // The timer is four octets.
-pub fn set_timer(row: &mut [u8], body: &[u8])
-    requires { (length row.old ≡ row_width) × (length body.now ≡ 4) }
+pub fn set_timer(row: &mut DeskRow, body: &[u8])
+    requires { length body.now ≡ 4 }
     ensures { row.new ≡ timer_row body.now row.old }
 {
     octets::copy_to(row, TIMER, body);
 }
 
-fn flag(yes: bool) -> u8
-    ensures { result ≡ cond yes 1 0 }
-{
-    if yes { 1 } else { 0 }
-}
-
 // Logged in, or out.
-pub fn set_login(row: &mut [u8], yes: bool)
-    requires { length row.old ≡ row_width }
+pub fn set_login(row: &mut DeskRow, yes: bool)
     ensures { row.new ≡ login_row yes row.old }
 {
-    row[LOGIN] = flag(yes);
+    row[LOGIN] = u8::from(yes);
 }
 
 // Where the memory that LOC names begins.
@@ -71,8 +67,8 @@ fn memory_at(eeprom: bool) -> usize
 }
 
 // Block k of a memory is written.
-pub fn write_block(row: &mut [u8], eeprom: bool, k: usize, bytes: &[u8])
-    requires { (length row.old ≡ row_width) × (k < block_count) × (length bytes.now ≡ block_size) }
+pub fn write_block(row: &mut DeskRow, eeprom: bool, k: usize, bytes: &[u8])
+    requires { (k < block_count) × (length bytes.now ≡ block_size) }
     ensures { row.new ≡ written_row eeprom k bytes.now row.old }
 {
     let at = memory_at(eeprom);
@@ -80,24 +76,22 @@ pub fn write_block(row: &mut [u8], eeprom: bool, k: usize, bytes: &[u8])
 }
 
 // Block k of EEPROM from RAM.
-pub fn save_block(row: &mut [u8], k: usize)
-    requires { (length row.old ≡ row_width) × (k < block_count) }
+pub fn save_block(row: &mut DeskRow, k: usize)
+    requires { k < block_count }
     ensures { row.new ≡ saved_row k row.old }
 {
     octets::move_within(row, RAM + BLOCK * k, EEPROM + BLOCK * k, BLOCK);
 }
 
 // All blocks of EEPROM from RAM.
-pub fn save_all(row: &mut [u8])
-    requires { length row.old ≡ row_width }
+pub fn save_all(row: &mut DeskRow)
     ensures { row.new ≡ all_saved_row row.old }
 {
     octets::move_within(row, RAM, EEPROM, MEMORY);
 }
 
 // RAM is loaded from EEPROM, VALID-TIME in force taken from EEPROM block 12; logged out, no locks.
-pub fn restart(row: &mut [u8])
-    requires { length row.old ≡ row_width }
+pub fn restart(row: &mut DeskRow)
     ensures { row.new ≡ restarted_row row.old }
 {
     octets::move_within(row, EEPROM, RAM, MEMORY);
@@ -107,8 +101,8 @@ pub fn restart(row: &mut [u8])
 }
 
 // Block k of a memory to its defaults.
-pub fn restore_block(row: &mut [u8], eeprom: bool, k: usize)
-    requires { (length row.old ≡ row_width) × (k < block_count) }
+pub fn restore_block(row: &mut DeskRow, eeprom: bool, k: usize)
+    requires { k < block_count }
     ensures { row.new ≡ written_row eeprom k (block_at k defaults) row.old }
 {
     let at = memory_at(eeprom);
@@ -116,8 +110,7 @@ pub fn restore_block(row: &mut [u8], eeprom: bool, k: usize)
 }
 
 // All blocks of a memory to their defaults.
-pub fn restore_all(row: &mut [u8], eeprom: bool)
-    requires { length row.old ≡ row_width }
+pub fn restore_all(row: &mut DeskRow, eeprom: bool)
     ensures { row.new ≡ default_row eeprom row.old }
 {
     fresh::put_memory(row, memory_at(eeprom));

@@ -1,5 +1,6 @@
 -- What is owed of each command: its control byte finds it, it leaves a legal desk, and a reply carries its result and the statuses of its tests.
 -- A further command has its cases here. Assumes nothing.
+use Rattle.std.specs.Prelude.{Some}
 use mathlib.Core.Path.{◌≡◌, refl, ◌∙◌, ap}
 use Prim.Native.Nat.{ℕ}
 use native.Mathlib.Omega.{arith}
@@ -24,7 +25,6 @@ use Rattle.rules.specs.declared.control.RowCommand.{RowCommand}
 use Rattle.rules.specs.declared.control.RowCommand.TheVariants.{Baud, Reset, ReadBlock, WriteBlock, SaveBlocks, RestoreBlocks, SetTimer, SendTimer, Login}
 use Rattle.rules.specs.declared.control.TableCommand.{TableCommand}
 use Rattle.rules.specs.declared.control.TableCommand.TheVariants.{SystemReset, ReadRecords, SendTable, RemoveRecords, ClearRecords}
-use Rattle.rules.specs.declared.control.Known.TheVariants.{Listed}
 use Rattle.rules.specs.Config.{in_eeprom, block_of, names_one, names_some, password_in_ram, bytes_unfit, defaults, block_at}
 use Rattle.rules.specs.Desk.{Desk, empty_table, with_table, restarted, memory_of}
 use Rattle.rules.specs.Control.{known, sized_for, terms_of, commands, known_in}
@@ -39,7 +39,7 @@ use Rattle.rules.proofs.Carried.{Carried, few-carried, plain_carried, cond-octet
 
 -- ---- a command's control byte finds its terms
 
-pub control-finds : (c : Command) → known (terms_of c).control ≡ Listed (terms_of c)
+pub control-finds : (c : Command) → known (terms_of c).control ≡ Some (terms_of c)
 unfolding known known_in commands
 control-finds (OnRow Baud) = refl
 control-finds (OnRow Reset) = refl
@@ -56,7 +56,7 @@ control-finds (OnTable SendTable) = refl
 control-finds (OnTable RemoveRecords) = refl
 control-finds (OnTable ClearRecords) = refl
 
-pub found : (c : Command) (control : ℕ) → control ≡ (terms_of c).control → known control ≡ Listed (terms_of c)
+pub found : (c : Command) (control : ℕ) → control ≡ (terms_of c).control → known control ≡ Some (terms_of c)
 found c control e = ap known e ∙ control-finds c
 
 -- ---- the desk is legal after it

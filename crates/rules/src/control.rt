@@ -38,9 +38,3 @@ pub struct Terms {
     pub login: bool,
     pub command: Command,
 }
-
-#[derive(Clone, Copy)]
-pub enum Known {
-    Listed(Terms),
-    Unknown,
-}

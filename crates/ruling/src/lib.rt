@@ -19,44 +19,33 @@ pub fn no_desk(n: u64) -> bool
     table::DESKS as u64 <= n
 }
 
+#[tactic(auto, unfolding(rules::specs::Config::use_legal))]
 fn use_legal(n: u8) -> bool
     ensures { result ≡ use_legal n }
 {
-    if n == 0 {
-        return true;
-    }
-    n == 2
+    n == 0 || n == 2
 }
 
+#[tactic(auto, unfolding(rules::specs::Config::char_legal))]
 fn char_legal(char: u8) -> bool
     ensures { result ≡ char_legal char }
 {
-    u8::count_ones(char) <= 1
+    char.count_ones() <= 1
 }
 
+#[tactic(auto, unfolding(rules::specs::Config::len_legal))]
 fn len_legal(len: u8) -> bool
     ensures { result ≡ len_legal len }
 {
-    if 4 < len / 16 {
-        return false;
-    }
-    len % 16 <= 3
+    len / 16 <= 4 && len % 16 <= 3
 }
 
 // Whether DB-USE, SEP-CHAR, END-CHAR and LEN-USR of a block 7 are legal.
+#[tactic(auto, unfolding(rules::specs::Config::shape_legal))]
 pub fn shape_legal(usage: u8, sep: u8, end: u8, len: u8) -> bool
     ensures { result ≡ shape_legal usage sep end len }
 {
-    if !use_legal(usage) {
-        return false;
-    }
-    if !char_legal(sep) {
-        return false;
-    }
-    if !char_legal(end) {
-        return false;
-    }
-    len_legal(len)
+    use_legal(usage) && char_legal(sep) && char_legal(end) && len_legal(len)
 }
 
 // How many records fit in a reply.
@@ -67,11 +56,9 @@ pub fn most_sent(kind: Kind) -> usize
 }
 
 // How many records stand behind their count.
+#[tactic(auto, unfolding(rules::specs::Records::records_for))]
 pub fn records_for(len: usize) -> usize
     ensures { result ≡ records_for len }
 {
-    if len < 2 {
-        return 0;
-    }
-    (len - 2) / table::RECORD
+    len.saturating_sub(2) / table::RECORD
 }

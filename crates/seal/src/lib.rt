@@ -11,13 +11,6 @@ ghost use Rattle.seal.specs.Buffer.{fits_in, sealed_as, data_in, request_in, rep
 
 use frame::{Advanced, Kind, Way};
 
-// What making a frame in a buffer answers: how many octets it has, or that none was made.
-#[derive(Clone, Copy)]
-pub enum Sealed {
-    Octets(usize),
-    Not,
-}
-
 // Whether a frame with len octets of data is no longer than its kind allows, nor than the room.
 pub fn has_room(way: Way, kind: Kind, len: usize, room: usize) -> bool
     ensures { result ≡ fits_in way kind len room }
@@ -45,7 +38,7 @@ fn write_advanced_lead(out: &mut [u8], n: usize)
     ensures { out.new ≡ put 0 (lead_of Kind.Advanced n) out.old }
 {
     out[0] = Advanced::FIRST;
-    octets::put16(out, 1, n as u16);
+    octets::put::<2>(out, 1, n as u64);
 }
 
 // The octets before COM-ADR of a frame of n octets.
@@ -92,18 +85,26 @@ fn close(out: &mut [u8], kind: Kind, address: u8, control: u8, len: usize) -> us
     n
 }
 
-// Makes a request around the len octets of data that stand at their place in the buffer.
-pub fn seal_request(out: &mut [u8], kind: Kind, address: u8, control: u8, len: usize) -> Sealed
+// Makes a request around the len octets of data that stand at their place in the buffer, and says how many octets it has; where none has
+// room, none is made.
+pub fn seal_request(
+    out: &mut [u8],
+    kind: Kind,
+    address: u8,
+    control: u8,
+    len: usize,
+) -> Option<usize>
     ensures value { result ≡ sealed_as Way.Request kind len out.old }
     ensures out_after { out.new ≡ request_in kind address control len out.old }
 {
     if !has_room(Way::Request, kind, len, out.len()) {
-        return Sealed::Not;
+        return None;
     }
-    Sealed::Octets(close(out, kind, address, control, len))
+    Some(close(out, kind, address, control, len))
 }
 
-// The same for a reply, with its status octet.
+// The same for a reply, with its status octet. A function of its own: a request has no status, and what each leaves is a definition of its
+// own (`request_in`, `reply_in`).
 pub fn seal_reply(
     out: &mut [u8],
     kind: Kind,
@@ -111,14 +112,14 @@ pub fn seal_reply(
     control: u8,
     status: u8,
     len: usize,
-) -> Sealed
+) -> Option<usize>
     ensures value { result ≡ sealed_as Way.Reply kind len out.old }
     ensures out_after { out.new ≡ reply_in kind address control status len out.old }
 {
     if !has_room(Way::Reply, kind, len, out.len()) {
-        return Sealed::Not;
+        return None;
     }
     let at = kind.lead() + 2;
     out[at] = status;
-    Sealed::Octets(close(out, kind, address, control, len + 1))
+    Some(close(out, kind, address, control, len + 1))
 }

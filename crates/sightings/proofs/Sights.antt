@@ -6,7 +6,7 @@ use mathlib.Core.List.{List}
 use lib.ListN.{length}
 use borrow.Author.Tests.{lt-ltb, le-ltb}
 use Rattle.octets.specs.Each.{Octet}
-use Rattle.locks.specs.declared.Found.TheVariants.{At}
+use Rattle.std.specs.Prelude.{Some}
 use Rattle.locks.specs.Locks.{found_in, locked}
 use Rattle.table.specs.Entries.{desks, share}
 use Rattle.rules.specs.declared.Seen.{Seen}
@@ -33,7 +33,7 @@ pub record Recording (d uid mask : ℕ) (r s : List ℕ) : Type 0 where
   pub ends : (s' s'' : List ℕ) → Says d (on_table (with_record r) (kept d s)) s s' → Says d (done_by (Lock uid) (kept d s')) s' s'' → Sighted d uid mask Recorded s s''
 
 module _ (s : List ℕ) (e : sound s ≡ true) (d : ℕ) (h : d < desks) (uid mask : ℕ) where
-  pub ignored : (at left : ℕ) → found_in uid (kept d s).locks ≡ At at left → Sighted d uid mask (Ignored left) s s
+  pub ignored : (at left : ℕ) → found_in uid (kept d s).locks ≡ Some (at, left) → Sighted d uid mask (Ignored left) s s
   unfolding seen_as after_seen
   ignored at left q = record { seen-is = rw q; says = unchanged s e d h }
 

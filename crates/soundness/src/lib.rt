@@ -39,17 +39,15 @@ const LEN_USR: usize = LINE + 13;
 // As many locks as an octet of the row can say.
 const MOST_LOCKS: u8 = locks::MOST as u8;
 
-// ---- the header
+// ---- the header, which each asks to be there, in the lent store:
+// a struct around it would owe the clause that its field is still that reference
 
 // Whether two places share no octet.
 fn apart(at: usize, n: usize, there: usize, m: usize) -> bool
     requires { (at + n < 1000000) × (there + m < 1000000) }
     ensures { result ≡ apartb at n there m }
 {
-    if at + n <= there {
-        return true;
-    }
-    there + m <= at
+    at + n <= there || there + m <= at
 }
 
 // Whether areas i and j share no octet.
@@ -68,12 +66,10 @@ fn area_fits(s: &[u8], k: usize) -> bool
     if start(s, k) + size(k) > SIZE {
         return false;
     }
-    let mut i: usize = 0;
-    while i < k {
+    for i in 0..k {
         if !clear_pair(s, i, k) {
             return false;
         }
-        i += 1;
     }
     true
 }
@@ -83,12 +79,10 @@ fn header_fine(s: &[u8]) -> bool
     requires { header_size ≤ length s.now }
     ensures { result ≡ fine (header s.now) }
 {
-    let mut k: usize = 0;
-    while k < AREAS {
+    for k in 0..AREAS {
         if !area_fits(s, k) {
             return false;
         }
-        k += 1;
     }
     used(s) <= ENTRIES
 }
@@ -96,14 +90,10 @@ fn header_fine(s: &[u8]) -> bool
 // ---- a row
 
 // Whether login and mark are 0 or 1.
-fn flags_right(row: &[u8]) -> bool
-    requires { length row.now ≡ row_width }
+fn flags_right(row: &[u8; ROW]) -> bool
     ensures { result ≡ flags_right row.now }
 {
-    if row[LOGIN] > 1 {
-        return false;
-    }
-    row[MARK] <= 1
+    row[LOGIN] <= 1 && row[MARK] <= 1
 }
 
 // Whether the memory at a place of the row is legal: its block 7 is.
@@ -120,27 +110,21 @@ fn memory_right(row: &[u8], at: usize) -> bool
 }
 
 // Whether both memories are.
-fn memories_right(row: &[u8]) -> bool
-    requires { length row.now ≡ row_width }
+fn memories_right(row: &[u8; ROW]) -> bool
     ensures { result ≡ memory_legal (field row.now ram_field) && memory_legal (field row.now eeprom_field) }
 {
-    if !memory_right(row, RAM) {
-        return false;
-    }
-    memory_right(row, EEPROM)
+    memory_right(row, RAM) && memory_right(row, EEPROM)
 }
 
 // Whether the timer is in its ranges.
-fn timer_right(row: &[u8]) -> bool
-    requires { length row.now ≡ row_width }
+fn timer_right(row: &[u8; ROW]) -> bool
     ensures { result ≡ timer_legal (timer_from (field row.now timer_field)) }
 {
     timer::legal(timer::read(row, TIMER))
 }
 
 // Whether the locks are a sound list.
-fn locks_right(row: &[u8]) -> bool
-    requires { length row.now ≡ row_width }
+fn locks_right(row: &[u8; ROW]) -> bool
     ensures { result ≡ locks_legal (number (field row.now valid_field))
         (locks_in (number (field row.now count_field)) (field row.now locks_field)) }
 {
@@ -152,19 +136,14 @@ fn locks_right(row: &[u8]) -> bool
 }
 
 // Whether the mark stands only where 64 records are held.
-fn mark_right(row: &[u8], held: u16) -> bool
-    requires { length row.now ≡ row_width }
+fn mark_right(row: &[u8; ROW], held: u16) -> bool
     ensures { result ≡ (not (eqb (number (field row.now mark_field)) 1) || eqb held share) }
 {
-    if row[MARK] != 1 {
-        return true;
-    }
-    held == table::SHARE
+    row[MARK] != 1 || held == table::SHARE
 }
 
 // Whether at most 64 records are held, the mark stands only where 64 are, the removal due is no more than these, and TAB-START is below 64.
-fn table_right(row: &[u8], held: u16) -> bool
-    requires { length row.now ≡ row_width }
+fn table_right(row: &[u8; ROW], held: u16) -> bool
     ensures { Tells held (λ rs. table_legal (desk_in row.now rs).table) result }
 {
     if held > table::SHARE {
@@ -180,8 +159,7 @@ fn table_right(row: &[u8], held: u16) -> bool
 }
 
 // Whether a row is sound, of a desk that holds so many records.
-fn row_sound(row: &[u8], held: u16) -> bool
-    requires { length row.now ≡ row_width }
+fn row_right(row: &[u8; ROW], held: u16) -> bool
     ensures { Tells held (row_sound row.now) result }
 {
     if !flags_right(row) {
@@ -197,6 +175,17 @@ fn row_sound(row: &[u8], held: u16) -> bool
         return false;
     }
     table_right(row, held)
+}
+
+// The same of the octets of the store that are its row.
+fn row_sound(row: &[u8], held: u16) -> bool
+    requires { length row.now ≡ row_width }
+    ensures { Tells held (row_sound row.now) result }
+{
+    let Some(row) = row.as_array() else {
+        unreachable!()
+    };
+    row_right(row, held)
 }
 
 // ---- the contents
@@ -217,17 +206,13 @@ fn contents_sound(s: &[u8]) -> bool
 {
     let at = start(s, ENTRIES_AREA);
     let n = used(s);
-    let c = table::census(&s[at..at + TABLE], n);
-    if !c.ok {
+    let Some(counts) = table::census(&s[at..at + TABLE], n) else {
         return false;
-    }
-    let counts = c.counts;
-    let mut d: usize = 0;
-    while d < table::DESKS {
+    };
+    for d in 0..table::DESKS {
         if !desk_sound(s, d, counts[d]) {
             return false;
         }
-        d += 1;
     }
     true
 }
@@ -239,8 +224,5 @@ pub fn test(s: &[u8]) -> bool
     if s.len() != SIZE {
         return false;
     }
-    if !header_fine(s) {
-        return false;
-    }
-    contents_sound(s)
+    header_fine(s) && contents_sound(s)
 }

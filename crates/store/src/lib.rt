@@ -53,6 +53,9 @@ pub const USED: usize = (AREAS - 1) * 2;
 
 pub const HEADER: usize = USED + 2;
 
+// Each asks that the header is there, in the lent store, and that k is an area:
+// a struct around it would owe the clause that its field is still that reference.
+
 // How many octets area k has.
 pub fn size(k: usize) -> usize
     requires { k < area_count }
@@ -67,9 +70,10 @@ pub fn start(s: &[u8], k: usize) -> usize
     ensures { (result ≡ start_of (header s.now) k) × (result ≤ 65535) }
 {
     if k == HEADER_AREA {
-        return 0;
+        0
+    } else {
+        octets::get16(s, (k - 1) * 2) as usize
     }
-    octets::get16(s, (k - 1) * 2) as usize
 }
 
 // How many entries are in use.

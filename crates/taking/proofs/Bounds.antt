@@ -1,13 +1,13 @@
 -- How far a call goes: it takes no more than it is lent, of a part that has octets at least one, and what it writes lies in the output.
 -- Assumes nothing.
-use Prim.Native.Nat.{ℕ, suc, ◌+◌, ◌-◌, ◌≤◌, ◌<◌}
+use Prim.Native.Nat.{ℕ, suc, ◌+◌, ◌≤◌, ◌<◌}
 use mathlib.Core.Path.{◌≡◌, refl, ap, subst, sym}
 use mathlib.Core.Bool.{Bool, true, false, cond}
 use mathlib.Core.List.{List, [], ◌∷◌}
 use native.Mathlib.Omega.{arith}
 use borrow.Author.Tests.{leb-true, leb-false}
 use lib.Dec.{eqb, leb}
-use lib.ListN.{length, take, drop, length-take, length-drop}
+use lib.ListN.{length}
 use Rattle.octets.proofs.Puts.{put-length}
 use Rattle.text.specs.Listing.{longest_line}
 use Rattle.feeding.specs.declared.Begun.{Begun}
@@ -51,14 +51,6 @@ part-bounds part a n b none q =
     let size = q.sized.out-size in
     let both = took-bounds part a n b (omega arith) q.took in
     record { most = both.0; some = took-some part a n b (omega arith) q.took; within = both.1 }
-
--- of what is left of an input
-pub rest-bounds : (input : List ℕ) (i : ℕ) (a : State) (n : ℕ) (b : State) → a.written ≡ 0 → i < length input → TookPart (take (length input - i) (drop i input)) a n b
-    → (i < i + n) × (i + n ≤ length input)
-rest-bounds input i a n b none h q =
-    let left : length (take (length input - i) (drop i input)) ≡ length input - i = simp (length-take, length-drop) (omega arith) in
-    let t = part-bounds (take (length input - i) (drop i input)) a n b none q in
-    (omega (arith, t.some (omega arith)), omega (arith, t.most))
 
 -- what the end writes lies in the output too
 pub finish-bounds : (line : Begun) (held s reply out : List ℕ) (n : ℕ) (s' reply' out' : List ℕ) → Finished line held s reply out n s' reply' out' → n ≤ length out'

@@ -1,4 +1,5 @@
 -- In any grouping of an input into parts, all that is printed is what the input prints. Assumes nothing.
+use Rattle.std.specs.Prelude.{Ok}
 use Prim.Native.Nat.{ℕ}
 use mathlib.Core.Path.{◌≡◌, sym, ap, ◌∙◌}
 use mathlib.Core.Bool.{true}
@@ -88,7 +89,7 @@ unfolding Ran
 first-sized [] a b out q s = rw (← q) (s.held-size, s.reply-size)
 first-sized (t ∷ ts) a b out (one, rest) s = (one.sized.held-size, one.sized.reply-size)
 
-started : (a : State) (buffer : List ℕ) → Made buffer Done a.store → Starts a.line → (length a.held ≡ held_room) × (length a.reply ≡ reply_room) → Ready [] [] a
+started : (a : State) (buffer : List ℕ) → Made buffer (Ok Done) a.store → Starts a.line → (length a.held ≡ held_room) × (length a.reply ≡ reply_room) → Ready [] [] a
 unfolding listing
 started a buffer made starts sizes out =
     let l = fresh-left buffer a.store made in

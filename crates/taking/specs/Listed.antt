@@ -1,6 +1,6 @@
 -- A whole run: a store made fresh, an input taken in any parts, each output printed before the next call, and the end. Nothing is known
 -- of a call but what it promises. Assumes nothing.
-use Rattle.std.specs.Prelude.{ℕ, ◌≡◌, true, List, [], ◌∷◌, ◌++◌, length, take}
+use Rattle.std.specs.Prelude.{ℕ, ◌≡◌, true, List, [], ◌∷◌, ◌++◌, length, take, Ok}
 use Rattle.frame.specs.Shape.{reply_room}
 use Rattle.store.specs.View.{view}
 use Rattle.store.specs.Sound.{sound}
@@ -57,7 +57,7 @@ sent (t ∷ ts) = waits t.after ++ sent ts
 pub record Listed (input printed : List ℕ) : Type 0 where
   pub buffer : List ℕ
   pub first : State
-  pub made : Made buffer Done first.store
+  pub made : Made buffer (Ok Done) first.store
   pub starts : Starts first.line
   pub turns : List Turn
   pub last : State

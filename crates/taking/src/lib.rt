@@ -13,7 +13,8 @@ use turning::{Progress, last_line, take};
 // The room for what is to be printed: that of many lines.
 pub const OUT: usize = 65536;
 
-// Takes octets of a part until it ends, or until the output might have no room for the next line.
+// Takes octets of a part until it ends, or until the output might have no room for the next line. No `for`: how far it has come is in what
+// `take` gives back.
 fn take_all(
     line: Begun,
     part: &[u8],
@@ -29,10 +30,8 @@ fn take_all(
         taken: 0,
         written: 0,
     };
-    while p.taken < part.len() {
-        if out.len() - p.written < LONGEST {
-            return p;
-        }
+    // No `for`: how far a part is taken is what the caller is told, and `take`, which promises it, moves on by itself.
+    while p.taken < part.len() && LONGEST <= out.len() - p.written {
         p = take(p, part, held, store, reply, out);
     }
     p

@@ -1,4 +1,5 @@
 -- What is printed: how long it is, and a line of hex digits in the output. Assumes nothing.
+use Rattle.std.specs.Prelude.{Result, Ok, Err}
 use Prim.Native.Nat.{ℕ, ◌+◌, ◌*◌, ◌≤◌}
 use mathlib.Core.Path.{◌≡◌, sym, ap, ◌∙◌}
 use mathlib.Core.List.{List, [], ◌∷◌, ◌++◌}
@@ -12,8 +13,9 @@ use Rattle.rules.specs.Line.{hex}
 use Rattle.digits.proofs.Pairs.{hex-length}
 use Rattle.rules.specs.declared.Seen.TheVariants.{Ignored, Lost, Recorded}
 use Rattle.events.specs.declared.Answer.{Answer}
-use Rattle.events.specs.declared.Answer.TheVariants.{Refused, Reply, Sighted, Done}
+use Rattle.events.specs.declared.Answer.TheVariants.{Reply, Sighted, Done}
 use Rattle.events.proofs.Short.{Short}
+use Rattle.frame.specs.declared.Refusal.{Refusal}
 use Rattle.frame.specs.Refusal.{number_of}
 use Rattle.digits.specs.Digits.{places_of, decimal_of}
 use Rattle.digits.proofs.Decimals.{places-most, decimal-length}
@@ -46,15 +48,15 @@ number-line-short : (word : List ℕ) (n : ℕ) → length word + 6 ≤ word_roo
 number-line-short word n h = omega (arith, number-line-length word n, places-most n)
 
 -- every line has room in as many octets as the longest
-pub printed-short : (a : Answer) (reply : List ℕ) → Short a → length (printed a reply) ≤ longest_line
+pub printed-short : (a : Result Answer Refusal) (reply : List ℕ) → Short a → length (printed a reply) ≤ longest_line
 unfolding printed refused_line seen_line ok_line
-printed-short (Refused r) reply h = le_trans (number-line-short _ (number_of r) (lit≤ tt)) (lit≤ tt)
-printed-short (Reply n) reply h = omega (arith, hex-line-length (take n reply), length-take n reply)
-printed-short (Sighted (Ignored left)) reply h = le_trans (number-line-short _ left (lit≤ tt)) (lit≤ tt)
-printed-short (Sighted Lost) reply h = omega arith
-printed-short (Sighted Recorded) reply h = omega arith
-printed-short Done reply h = omega arith
+printed-short (Err r) reply h = le_trans (number-line-short _ (number_of r) (lit≤ tt)) (lit≤ tt)
+printed-short (Ok (Reply n)) reply h = omega (arith, hex-line-length (take n reply), length-take n reply)
+printed-short (Ok (Sighted (Ignored left))) reply h = le_trans (number-line-short _ left (lit≤ tt)) (lit≤ tt)
+printed-short (Ok (Sighted Lost)) reply h = omega arith
+printed-short (Ok (Sighted Recorded)) reply h = omega arith
+printed-short (Ok Done) reply h = omega arith
 
 -- so it has room wherever the longest has
-pub room_for : (a : Answer) (reply out : List ℕ) → Short a → longest_line ≤ length out → (word_room ≤ length out) × (length (printed a reply) ≤ length out)
+pub room_for : (a : Result Answer Refusal) (reply out : List ℕ) → Short a → longest_line ≤ length out → (word_room ≤ length out) × (length (printed a reply) ≤ length out)
 room_for a reply out h l = (omega arith, omega (arith, printed-short a reply h))

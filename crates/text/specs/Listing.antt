@@ -1,15 +1,16 @@
 -- The listing: what a line says, and what is printed for it. Assumes nothing.
-use Rattle.std.specs.Prelude.{ℕ, ◌+◌, ◌-◌, ◌*◌, ◌≡◌, Bool, false, cond, not, ◌&&◌, List, [], ◌∷◌, ◌++◌, length, get_or, take, drop, eqb}
+use Rattle.std.specs.Prelude.{ℕ, ◌+◌, ◌-◌, ◌*◌, ◌≡◌, Bool, false, cond, not, ◌&&◌, List, [], ◌∷◌, ◌++◌, length, get_or, take, drop, eqb, Result, Ok, Err}
 use Rattle.octets.specs.Tests.{all_of}
 use Rattle.octets.specs.Parts.{part, put}
 use Rattle.octets.specs.Numbers.{number}
+use Rattle.frame.specs.declared.Refusal.{Refusal}
 use Rattle.frame.specs.Shape.{reply_room}
 use Rattle.frame.specs.Refusal.{number_of}
 use Rattle.rules.specs.declared.Seen.{Seen}
 use Rattle.rules.specs.declared.Seen.TheVariants.{Ignored, Lost, Recorded}
 use Rattle.rules.specs.Line.{hex}
 use Rattle.events.specs.declared.Answer.{Answer}
-use Rattle.events.specs.declared.Answer.TheVariants.{Refused, Reply, Sighted, Done}
+use Rattle.events.specs.declared.Answer.TheVariants.{Reply, Sighted, Done}
 use Rattle.digits.specs.Digits.{decimal, is_hex, octets_of, decimal_of}
 
 -- ---- what a line says
@@ -72,11 +73,11 @@ unfoldable pub not_read_line : List ℕ
 not_read_line = 0x6E ∷ 0x6F ∷ 0x74 ∷ 0x20 ∷ 0x72 ∷ 0x65 ∷ 0x61 ∷ 0x64 ∷ 0x0A ∷ []
 
 -- an answer of the box, and the reply buffer after it
-unfoldable pub printed : Answer → List ℕ → List ℕ
-printed (Refused r) reply = refused_line (number_of r)
-printed (Reply n) reply = hex_line (take n reply)
-printed (Sighted w) reply = seen_line w
-printed Done reply = ok_line
+unfoldable pub printed : Result Answer Refusal → List ℕ → List ℕ
+printed (Err r) reply = refused_line (number_of r)
+printed (Ok (Reply n)) reply = hex_line (take n reply)
+printed (Ok (Sighted w)) reply = seen_line w
+printed (Ok Done) reply = ok_line
 
 -- the longest line: the digits of the longest reply, and LF
 abbrev pub longest_line : ℕ

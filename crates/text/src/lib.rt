@@ -12,26 +12,16 @@ pub mod print;
 // The longest line that is printed: the digits of the longest reply, and LF.
 pub const LONGEST: usize = 2 * Advanced::LONGEST + 1;
 
+#[tactic(auto, unfolding(crate::specs::Listing::is_tick))]
 pub fn is_tick(s: &[u8]) -> bool
     ensures { result ≡ is_tick s.now }
 {
-    if s.len() != 1 {
-        return false;
-    }
-    s[0] == b't'
+    s.len() == 1 && s[0] == b't'
 }
 
+#[tactic(auto, unfolding(crate::specs::Listing::is_sighting))]
 pub fn is_sighting(s: &[u8]) -> bool
     ensures { result ≡ is_sighting s.now }
 {
-    if s.len() != 20 {
-        return false;
-    }
-    if s[0] != b's' {
-        return false;
-    }
-    if !between(b'0', b'9', s[1]) {
-        return false;
-    }
-    all_hex(&s[2..])
+    s.len() == 20 && s[0] == b's' && between(b'0', b'9', s[1]) && all_hex(&s[2..])
 }

@@ -1,4 +1,5 @@
-// What is printed for an answer, written at the start of an output that has room for it. Each gives how many octets.
+// What is printed for an answer, written at the start of an output that has room for it. Each gives how many octets, and asks for room
+// in the lent output: a struct around it would owe the clause that its field is still that reference.
 ghost use Rattle.std.specs.Prelude.{◌≡◌, ◌+◌, ◌≤◌, length};
 ghost use Rattle.frame.specs.Refusal.{number_of};
 ghost use Rattle.octets.specs.Parts.{put};
@@ -8,7 +9,6 @@ use digits::decimal::put_decimal;
 use digits::hex::put_hex;
 use events::Answer;
 use frame::Refusal;
-use octets::least;
 use rules::Seen;
 
 // Writes a text.
@@ -43,6 +43,7 @@ fn say_number(word: &[u8], n: u16, out: &mut [u8]) -> usize
     end + 1
 }
 
+#[tactic(auto, unfolding(crate::specs::Listing::refused_line))]
 fn say_refused(why: Refusal, out: &mut [u8]) -> usize
     requires { word_room ≤ length out.old }
     ensures { Printed (refused_line (number_of why)) out.old result out.new }
@@ -50,6 +51,7 @@ fn say_refused(why: Refusal, out: &mut [u8]) -> usize
     say_number(b"refused ", why.number() as u16, out)
 }
 
+#[tactic(auto, unfolding(crate::specs::Listing::seen_line))]
 fn say_seen(seen: Seen, out: &mut [u8]) -> usize
     requires { word_room ≤ length out.old }
     ensures { Printed (seen_line seen) out.old result out.new }
@@ -61,6 +63,7 @@ fn say_seen(seen: Seen, out: &mut [u8]) -> usize
     }
 }
 
+#[tactic(auto, unfolding(crate::specs::Listing::not_read_line))]
 pub fn not_read(out: &mut [u8]) -> usize
     requires { word_room ≤ length out.old }
     ensures { Printed not_read_line out.old result out.new }
@@ -69,17 +72,18 @@ pub fn not_read(out: &mut [u8]) -> usize
 }
 
 // Writes what is printed for an answer of the box, with the reply buffer after it.
-pub fn show(a: Answer, reply: &[u8], out: &mut [u8]) -> usize
+#[tactic(auto, unfolding(crate::specs::Listing::printed, crate::specs::Listing::ok_line))]
+pub fn show(a: Result<Answer, Refusal>, reply: &[u8], out: &mut [u8]) -> usize
     requires { (word_room ≤ length out.old) × (length (printed a reply.now) ≤ length out.old) }
     ensures { Printed (printed a reply.now) out.old result out.new }
 {
     match a {
-        Answer::Refused(why) => say_refused(why, out),
-        Answer::Reply(n) => {
-            let m = least(n, reply.len());
+        Err(why) => say_refused(why, out),
+        Ok(Answer::Reply(n)) => {
+            let m = n.min(reply.len());
             say_hex(&reply[..m], out)
         }
-        Answer::Sighted(seen) => say_seen(seen, out),
-        Answer::Done => say(b"ok\n", out),
+        Ok(Answer::Sighted(seen)) => say_seen(seen, out),
+        Ok(Answer::Done) => say(b"ok\n", out),
     }
 }

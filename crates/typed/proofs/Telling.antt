@@ -1,29 +1,26 @@
 -- What the data of a reply say, from what was read of them. Assumes nothing.
 use Prim.Native.Nat.{ℕ, ◌+◌, ◌*◌, ◌≤◌, ◌<◌}
-use mathlib.Core.Path.{◌≡◌, refl, sym, ap, ◌∙◌}
-use mathlib.Core.Bool.{Bool, true, false, cond, not, ◌&&◌, and-false}
+use mathlib.Core.Path.{◌≡◌, refl, ap, ◌∙◌}
+use mathlib.Core.Bool.{Bool, true, false, cond, not}
 use mathlib.Core.List.{List, []}
 use mathlib.Core.Option.{none, some, none-ne-some}
 use native.Mathlib.Omega.{arith}
-use lib.Dec.{eqb, ltb, leb, lit≤}
-use lib.ListN.{length, get_or, replicate}
+use lib.Dec.{eqb, lit≤}
+use lib.ListN.{length, get_or}
 use lib.Seq.{take_all}
 use borrow.Author.Tests.{eq-eqb, ne_eqb, eqb-true, lt-ltb, le-leb, lt-leb, not-false}
 use Rattle.octets.specs.Tests.{first}
 use Rattle.octets.proofs.Tests.{none-head}
-use Rattle.octets.specs.Parts.{part, put}
+use Rattle.octets.specs.Parts.{part}
 use Rattle.octets.specs.Numbers.{number, u16_at}
-use Rattle.octets.proofs.Puts.{put_whole, part-part, part_at}
-use Rattle.frame.specs.declared.Refusal.TheVariants.{NotTheReply}
+use Rattle.octets.proofs.Puts.{part-part, part_at}
 use Rattle.frame.specs.Finding.{refused, found, finding}
 use Rattle.frame.proofs.Finding.{finding-found, finding-refused}
 use Rattle.timer.specs.declared.Timer.{Timer}
 use Rattle.timer.specs.Clock.{timer_from}
 use Rattle.table.specs.Entries.{record_width, share}
-use Rattle.rules.specs.Config.{block_size}
 use Rattle.rules.specs.Records.{records_for}
-use Rattle.typed.specs.declared.Whether.TheVariants.{There, Refused}
-use Rattle.typed.specs.Typed.{other_length, bytes_of, BlockSaid, block_told, timer_told, read_data, count_refusals, count_told, sighting_from, record_refusals, record_told}
+use Rattle.typed.specs.Typed.{other_length, timer_told, sizes_from, sizes_told, read_data, count_refusals, count_told, sighting_from, record_refusals, record_told}
 
 -- ---- by its length
 
@@ -36,64 +33,20 @@ module _ (size : ℕ) (sent : List ℕ) where
   unfolding first other_length
   right-length e = rw (eq-eqb _ _ e)
 
-pub bytes-length : (sent : List ℕ) → length (bytes_of sent) ≡ block_size
-unfolding bytes_of
-bytes-length sent = go (eqb (length sent) block_size) refl
-  where
-    go : (b : Bool) → eqb (length sent) block_size ≡ b → length (cond b sent (replicate block_size 0)) ≡ block_size
-    go true e = eqb-true _ _ e
-    go false e = refl
-
--- no block: zeros
-pub block-not : (sent zeros : List ℕ) → zeros ≡ bytes_of [] → (length sent ≡ block_size → ⊥) → BlockSaid sent (record { whether = Refused NotTheReply; bytes = zeros })
-unfolding block_told bytes_of
-block-not sent zeros z h = record { said = rw (other_length_lem block_size sent h); bytes-are = rw (ne_eqb _ _ h) z }
-
--- fourteen bytes, written over zeros
-pub block-said : (sent zeros b : List ℕ) → length sent ≡ block_size → length zeros ≡ block_size → b ≡ put 0 sent zeros → BlockSaid sent (record { whether = There; bytes = b })
-unfolding block_told bytes_of
-block-said sent zeros b e z h =
-    let same : b ≡ sent = h ∙ put_whole sent zeros (e ∙ sym z) in
-    record { said = rw (right-length block_size sent e) (ap found same); bytes-are = rw (eq-eqb _ _ e) same }
-
 pub timer-told : (sent : List ℕ) (t : Timer) → length sent ≡ 4 → t ≡ timer_from (part 0 4 sent) → found t ≡ timer_told sent
 unfolding timer_told part
 timer-told sent t e h = rw (right-length 4 sent e) (ap found (h ∙ ap timer_from (take_all 4 sent (omega arith))))
 
+pub sizes-told : (sent : List ℕ) (a b c : ℕ) → length sent ≡ 6 → a ≡ u16_at 0 sent → b ≡ u16_at 2 sent → c ≡ u16_at 4 sent
+    → found (record { size = a; start = b; len = c }) ≡ sizes_told sent
+unfolding sizes_told sizes_from
+sizes-told sent a b c e p q r = rw (right-length 6 sent e, p, q, r)
+
 -- ---- the data of a reply to 0x22
 
-module _ (sent : List ℕ) where
-  pub data-none : length sent ≡ 0 → true ≡ read_data sent
-  unfolding read_data
-  data-none e = rw (eq-eqb _ _ e)
-
-  module _ (some : length sent ≡ 0 → ⊥) where
-    pub data-none-counted : (n : ℕ) → n ≡ u16_at 0 sent → n ≡ 0 → false ≡ read_data sent
-    unfolding read_data
-    data-none-counted n e z = rw (ne_eqb _ _ some, ← e, z)
-
-    pub data-many : (n : ℕ) → n ≡ u16_at 0 sent → share < n → false ≡ read_data sent
-    unfolding read_data
-    data-many n e h = rw (ne_eqb _ _ some, ← e, lt-ltb 0 n (omega arith), lt-leb n share h)
-
-    -- too short for a count
-    pub data-short : length sent < 2 → false ≡ read_data sent
-    unfolding read_data
-    data-short h = rw (ne_eqb _ _ some, ne_eqb (length sent) (2 + u16_at 0 sent * record_width) (λ e. omega arith)) (sym (and-false (ltb 0 (u16_at 0 sent) && leb (u16_at 0 sent) share)))
-
-    pub data-counted : (n : ℕ) → n ≡ u16_at 0 sent → (n ≡ 0 → ⊥) → n ≤ share → eqb (length sent) (2 + n * record_width) ≡ read_data sent
-    unfolding read_data
-    data-counted n e z h = rw (ne_eqb _ _ some, ← e, lt-ltb 0 n (omega arith), le-leb n share h)
-
-  -- ---- how many records
-
-  pub count-refused : read_data sent ≡ false → refused 8 ≡ count_told sent
-  unfolding count_told count_refusals first
-  count-refused e = rw e
-
-  pub count-said : (n : ℕ) → read_data sent ≡ true → n ≡ records_for (length sent) → found n ≡ count_told sent
-  unfolding count_told count_refusals first
-  count-said n e h = rw e (ap found h)
+pub data-counted : (sent : List ℕ) (n : ℕ) → 2 ≤ length sent → n ≡ u16_at 0 sent → 0 < n → n ≤ share → eqb (length sent) (2 + n * record_width) ≡ read_data sent
+unfolding read_data
+data-counted sent n long is more few = rw (ne_eqb (length sent) 0 (λ z. omega arith), ← is, lt-ltb 0 n more, le-leb n share few)
 
 -- ---- record i
 

@@ -1,28 +1,16 @@
 -- What the data of a reply say. Assumes nothing.
-use Rattle.std.specs.Prelude.{ℕ, ◌+◌, ◌*◌, ◌≡◌, Bool, cond, not, ◌&&◌, ◌||◌, List, [], ◌∷◌, length, get_or, replicate, eqb, ltb, leb}
+use Rattle.std.specs.Prelude.{ℕ, ◌+◌, ◌*◌, Bool, not, ◌&&◌, ◌||◌, List, [], ◌∷◌, length, get_or, eqb, ltb, leb}
 use Rattle.octets.specs.Tests.{first}
 use Rattle.octets.specs.Parts.{part}
 use Rattle.octets.specs.Numbers.{number, u16_at}
-use Rattle.frame.specs.Refusal.{number_of}
-use Rattle.frame.specs.Finding.{Finding, refused, found, finding}
+use Rattle.frame.specs.Finding.{Finding, finding}
 use Rattle.timer.specs.declared.Timer.{Timer}
 use Rattle.timer.specs.Clock.{timer_from}
 use Rattle.table.specs.Entries.{record_width, share}
 use Rattle.rules.specs.Config.{block_size}
 use Rattle.rules.specs.Records.{records_for}
-use Rattle.typed.specs.declared.Whether.{Whether}
-use Rattle.typed.specs.declared.Whether.TheVariants as whether
-use Rattle.typed.specs.declared.Block.{Block}
-use Rattle.typed.specs.declared.TimerTold.{TimerTold}
-use Rattle.typed.specs.declared.TimerTold.TheVariants as timer
 use Rattle.typed.specs.declared.Sizes.{Sizes}
-use Rattle.typed.specs.declared.SizesTold.{SizesTold}
-use Rattle.typed.specs.declared.SizesTold.TheVariants as sizes
-use Rattle.typed.specs.declared.CountTold.{CountTold}
-use Rattle.typed.specs.declared.CountTold.TheVariants as count
 use Rattle.typed.specs.declared.Sighting.{Sighting}
-use Rattle.typed.specs.declared.RecordTold.{RecordTold}
-use Rattle.typed.specs.declared.RecordTold.TheVariants as row
 
 -- 8: data of another length than a reply to that command carries
 unfoldable pub other_length : ℕ → List ℕ → List (ℕ × Bool)
@@ -33,26 +21,10 @@ other_length size sent = (8, not (eqb (length sent) size)) ∷ []
 unfoldable pub block_told : List ℕ → Finding (List ℕ)
 block_told sent = finding (first (other_length block_size sent)) sent
 
--- as the code holds them: zeros where they are refused
-unfoldable pub bytes_of : List ℕ → List ℕ
-bytes_of sent = cond (eqb (length sent) block_size) sent (replicate block_size 0)
-
-abbrev pub said_by : Whether → List ℕ → Finding (List ℕ)
-said_by whether.There bytes = found bytes
-said_by (whether.Refused r) bytes = refused (number_of r)
-
-pub record BlockSaid (sent : List ℕ) (b : Block) : Type 0 where
-  pub said : said_by b.whether b.bytes ≡ block_told sent
-  pub bytes-are : b.bytes ≡ bytes_of sent
-
 -- ---- 0x86: the timer
 
 unfoldable pub timer_told : List ℕ → Finding Timer
 timer_told sent = finding (first (other_length 4 sent)) (timer_from sent)
-
-abbrev pub timer_said : TimerTold → Finding Timer
-timer_said (timer.Timer t) = found t
-timer_said (timer.Refused r) = refused (number_of r)
 
 -- ---- 0x31: TAB-SIZE, TAB-START, TAB-LEN
 
@@ -61,10 +33,6 @@ sizes_from sent = record { size = u16_at 0 sent; start = u16_at 2 sent; len = u1
 
 unfoldable pub sizes_told : List ℕ → Finding Sizes
 sizes_told sent = finding (first (other_length 6 sent)) (sizes_from sent)
-
-abbrev pub sizes_said : SizesTold → Finding Sizes
-sizes_said (sizes.Sizes s) = found s
-sizes_said (sizes.Refused r) = refused (number_of r)
 
 -- ---- 0x22: records
 
@@ -81,10 +49,6 @@ count_refusals sent = (8, not (read_data sent)) ∷ []
 unfoldable pub count_told : List ℕ → Finding ℕ
 count_told sent = finding (first (count_refusals sent)) (records_for (length sent))
 
-abbrev pub count_said : CountTold → Finding ℕ
-count_said (count.Records n) = found n
-count_said (count.Refused r) = refused (number_of r)
-
 -- a record: UID 8, timer 4, antenna mask 1
 unfoldable pub sighting_from : List ℕ → Sighting
 sighting_from r = record { uid = number (part 0 8 r); timer = timer_from (part 8 4 r); mask = get_or r 12 0 }
@@ -99,7 +63,3 @@ record_refusals sent i = (6, leb (records_for (length sent)) i) ∷ count_refusa
 
 unfoldable pub record_told : List ℕ → ℕ → Finding Sighting
 record_told sent i = finding (first (record_refusals sent i)) (sighting_at sent i)
-
-abbrev pub record_said : RecordTold → Finding Sighting
-record_said (row.Record s) = found s
-record_said (row.Refused r) = refused (number_of r)

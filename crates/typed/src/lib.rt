@@ -2,7 +2,8 @@
 #![tactic(auto)]
 
 ghost use Rattle.std.specs.Prelude.{◌≡◌};
-ghost use Rattle.typed.specs.Typed.{BlockSaid, timer_said, timer_told, sizes_said, sizes_told, read_data, count_said, count_told, record_said, record_told};
+ghost use Rattle.frame.specs.Finding.{verdict_of};
+ghost use Rattle.typed.specs.Typed.{block_told, timer_told, sizes_told, read_data, count_told, record_told};
 
 use frame::Refusal;
 use rules::BLOCK;
@@ -10,44 +11,12 @@ use ruling::records_for;
 use table::{RECORD, SHARE};
 use timer::Timer;
 
-// Whether there is what was looked for.
-#[derive(Clone, Copy)]
-pub enum Whether {
-    There,
-    Refused(Refusal),
-}
-
-// The bytes of a block, where they are there; else zeros.
-#[derive(Clone, Copy)]
-pub struct Block {
-    pub whether: Whether,
-    pub bytes: [u8; BLOCK],
-}
-
-#[derive(Clone, Copy)]
-pub enum TimerTold {
-    Timer(Timer),
-    Refused(Refusal),
-}
-
 // TAB-SIZE, TAB-START, TAB-LEN.
 #[derive(Clone, Copy)]
 pub struct Sizes {
     pub size: u16,
     pub start: u16,
     pub len: u16,
-}
-
-#[derive(Clone, Copy)]
-pub enum SizesTold {
-    Sizes(Sizes),
-    Refused(Refusal),
-}
-
-#[derive(Clone, Copy)]
-pub enum CountTold {
-    Records(usize),
-    Refused(Refusal),
 }
 
 // A record.
@@ -58,48 +27,33 @@ pub struct Sighting {
     pub mask: u8,
 }
 
-#[derive(Clone, Copy)]
-pub enum RecordTold {
-    Record(Sighting),
-    Refused(Refusal),
-}
-
 // The block that a reply to 0x80 carries.
-pub fn block_in(sent: &[u8]) -> Block
-    ensures { BlockSaid sent.now result }
+#[tactic(auto, unfolding(crate::specs::Typed::block_told, crate::specs::Typed::other_length, octets::specs::Tests::first))]
+pub fn block_in(sent: &[u8]) -> Result<[u8; BLOCK], Refusal>
+    ensures { verdict_of result ≡ block_told sent.now }
 {
-    let mut bytes = [0; BLOCK];
-    if sent.len() != BLOCK {
-        return Block {
-            whether: Whether::Refused(Refusal::NotTheReply),
-            bytes: bytes,
-        };
-    }
-    octets::copy_to(&mut bytes, 0, sent);
-    Block {
-        whether: Whether::There,
-        bytes: bytes,
-    }
+    <[u8; BLOCK]>::try_from(sent).map_err(|_| Refusal::NotTheReply)
 }
 
 // The timer that a reply to 0x86 carries.
-pub fn timer_in(sent: &[u8]) -> TimerTold
-    ensures { timer_said result ≡ timer_told sent.now }
+pub fn timer_in(sent: &[u8]) -> Result<Timer, Refusal>
+    ensures { verdict_of result ≡ timer_told sent.now }
 {
     if sent.len() != 4 {
-        return TimerTold::Refused(Refusal::NotTheReply);
+        return Err(Refusal::NotTheReply);
     }
-    TimerTold::Timer(timer::read(sent, 0))
+    Ok(timer::read(sent, 0))
 }
 
 // What a reply to 0x31 carries.
-pub fn sizes_in(sent: &[u8]) -> SizesTold
-    ensures { sizes_said result ≡ sizes_told sent.now }
+#[tactic(auto, unfolding(crate::specs::Typed::sizes_told, crate::specs::Typed::sizes_from, crate::specs::Typed::other_length, octets::specs::Tests::first))]
+pub fn sizes_in(sent: &[u8]) -> Result<Sizes, Refusal>
+    ensures { verdict_of result ≡ sizes_told sent.now }
 {
     if sent.len() != 6 {
-        return SizesTold::Refused(Refusal::NotTheReply);
+        return Err(Refusal::NotTheReply);
     }
-    SizesTold::Sizes(Sizes {
+    Ok(Sizes {
         size: octets::get16(sent, 0),
         start: octets::get16(sent, 2),
         len: octets::get16(sent, 4),
@@ -107,48 +61,41 @@ pub fn sizes_in(sent: &[u8]) -> SizesTold
 }
 
 // Whether a reply to 0x22 can carry these data: none, or a count from 1 to 64 and as many records.
+#[tactic(auto, unfolding(crate::specs::Typed::read_data))]
 fn is_read_data(sent: &[u8]) -> bool
     ensures { result ≡ read_data sent.now }
 {
-    if sent.len() == 0 {
-        return true;
-    }
     if sent.len() < 2 {
-        return false;
+        return sent.is_empty();
     }
     let n = octets::get16(sent, 0) as usize;
-    if n == 0 {
-        return false;
-    }
-    if (SHARE as usize) < n {
-        return false;
-    }
-    sent.len() == 2 + n * RECORD
+    0 < n && n <= SHARE as usize && sent.len() == 2 + n * RECORD
 }
 
 // How many records a reply to 0x22 carries.
-pub fn count_in(sent: &[u8]) -> CountTold
-    ensures { count_said result ≡ count_told sent.now }
+#[tactic(auto, unfolding(crate::specs::Typed::count_told, crate::specs::Typed::count_refusals, octets::specs::Tests::first))]
+pub fn count_in(sent: &[u8]) -> Result<usize, Refusal>
+    ensures { verdict_of result ≡ count_told sent.now }
 {
     if !is_read_data(sent) {
-        return CountTold::Refused(Refusal::NotTheReply);
+        return Err(Refusal::NotTheReply);
     }
-    CountTold::Records(records_for(sent.len()))
+    Ok(records_for(sent.len()))
 }
 
 // Record i that a reply to 0x22 carries, the oldest first.
-pub fn record_in(sent: &[u8], i: usize) -> RecordTold
-    ensures { record_said result ≡ record_told sent.now i }
+pub fn record_in(sent: &[u8], i: usize) -> Result<Sighting, Refusal>
+    ensures { verdict_of result ≡ record_told sent.now i }
 {
     if i >= records_for(sent.len()) {
-        return RecordTold::Refused(Refusal::OutOfRange);
+        return Err(Refusal::OutOfRange);
     }
     if !is_read_data(sent) {
-        return RecordTold::Refused(Refusal::NotTheReply);
+        return Err(Refusal::NotTheReply);
     }
     let at = 2 + i * RECORD;
-    RecordTold::Record(Sighting {
-        uid: octets::number64(sent, at),
+    Ok(Sighting {
+        uid: octets::number::<8>(sent, at),
         timer: timer::read(sent, at + 8),
         mask: sent[at + 12],
     })

@@ -24,7 +24,7 @@ returns-then-is_sighting c =
     rw (other-sighting _ (sym c.is_tick.ensures ∙ c.if-is_tick.false) (sym c.is_sighting.ensures ∙ c.if-is_sighting.true))
     c.sighted.ensures
 
-pub returns : goal.returns
-returns c =
+pub returns-else-is_sighting : goal.returns-else-is_sighting
+returns-else-is_sighting c =
     rw (other_none _ (sym c.is_tick.ensures ∙ c.if-is_tick.false) (sym c.is_sighting.ensures ∙ c.if-is_sighting.false))
     (record { answers = (refl, refl, c.not_read.ensures) })

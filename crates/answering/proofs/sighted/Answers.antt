@@ -38,4 +38,4 @@ returns c =
     let s = c.args.s.now in
     sighting-answered s _ _ _ _ _ _ _ _ _
     (nine-octets s _ _ _ _ (facts (goal.at.returns c).Start).0 (rest_of 2 s) (length-replicate {A = ℕ} 9 0) c.decode.ensures.0 c.decode.ensures.1)
-    c.number64.ensures c.sighting-a.ensures c.show.ensures
+    c.number.ensures c.sighting-a.ensures c.show.ensures

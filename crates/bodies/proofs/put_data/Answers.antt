@@ -1,5 +1,6 @@
 -- `bodies::put_data` meets its contract. Assumes nothing.
 use mathlib.Core.Path.{refl, ◌∙◌}
+use lib.Dec.{lit≤}
 use Rattle.bodies.proofs.Body.{room_as, data-as, data-none}
 use borrow.Author.Tests.{ltb-true}
 use Rattle.requests.proofs.Values.{holds_as, times}
@@ -26,14 +27,11 @@ put_timer-requires c =
     let t = times _ _ _ _ c.requires.0 c.in-SetTimer.is in
     (t.hour, t.minute, t.milli, room_as _ _ _ _ (search rules) c.requires.1 c.in-SetTimer.is)
 
-pub put_password-requires : goal.put_password-requires
-put_password-requires c = room_as _ _ _ _ (search rules) c.requires.1 c.in-Login.is
+pub put-requires : goal.put-requires
+put-requires c = (lit≤ tt, room_as _ _ _ _ (search rules) c.requires.1 c.in-Login.is)
 
-pub overflow_cast-k : goal.overflow_cast-k
-overflow_cast-k c = record { fits = ltb-true _ _ (holds_as _ _ c.requires.0 c.in-ReadRecords.is) }
-
-pub put16-requires : goal.put16-requires
-put16-requires c = room_as _ _ _ _ (search rules) c.requires.1 c.in-ReadRecords.is
+pub put-requires-in-ReadRecords : goal.put-requires-in-ReadRecords
+put-requires-in-ReadRecords c = (lit≤ tt, room_as _ _ _ _ (search rules) c.requires.1 c.in-ReadRecords.is)
 
 pub returns-in-Baud : goal.returns-in-Baud
 returns-in-Baud c = c.put_octet.ensures ∙ data-as _ _ _ _ c.in-Baud.is
@@ -63,10 +61,10 @@ pub returns-in-SendTimer : goal.returns-in-SendTimer
 returns-in-SendTimer c = data-none _ _ _ _ c.in-SendTimer.is refl
 
 pub returns-in-Login : goal.returns-in-Login
-returns-in-Login c = c.put_password.ensures ∙ data-as _ _ _ _ c.in-Login.is
+returns-in-Login c = c.put.ensures ∙ data-as _ _ _ _ c.in-Login.is
 
 pub returns-in-ReadRecords : goal.returns-in-ReadRecords
-returns-in-ReadRecords c = c.put16.ensures ∙ data-as _ _ _ _ c.in-ReadRecords.is
+returns-in-ReadRecords c = c.put-in-ReadRecords.ensures ∙ data-as _ _ _ _ c.in-ReadRecords.is
 
 pub returns-in-SendTable : goal.returns-in-SendTable
 returns-in-SendTable c = data-none _ _ _ _ c.in-SendTable.is refl

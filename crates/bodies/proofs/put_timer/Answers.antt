@@ -9,8 +9,8 @@ pub bounds-out-1 : goal.bounds-out-1
 bounds-out-1 c = simp length-set (omega (arith, c.requires.3))
 
 pub shape_of-out : goal.shape_of-out
-shape_of-out c = c.put16.auto.s ∙ simp length-set
+shape_of-out c = c.put.auto.s ∙ simp length-set
 
 pub returns : goal.returns
 unfolding put
-returns c = c.put16.ensures
+returns c = c.put.ensures

@@ -5,7 +5,7 @@ use Rattle.codes.specs.Codes.{written_code}
 use Rattle.codes.proofs.written_code.Goals as goal
 
 pub overflow_add-result : goal.overflow_add-result
-overflow_add-result c = omega (arith, rw c.in-Octets.is at c.requires)
+overflow_add-result c = omega (arith, rw c.in-Ok.is at c.requires)
 
-pub returns-in-Octets : goal.returns-in-Octets
-returns-in-Octets c = sym (ap written_code c.in-Octets.is)
+pub returns-in-Ok : goal.returns-in-Ok
+returns-in-Ok c = sym (ap written_code c.in-Ok.is)

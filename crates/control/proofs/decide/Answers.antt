@@ -11,47 +11,47 @@ use Rattle.control.proofs.decide.Goals as goal
 
 pub returns-in-34 : goal.returns-in-34
 unfolding known known_in commands
-returns-in-34 c = c.of_table.ensures ∙ sym (found (OnTable ReadRecords) _ c.in-34.is)
+returns-in-34 c = c.listed.ensures ∙ sym (found (OnTable ReadRecords) _ c.in-34.is)
 
 pub returns-in-49 : goal.returns-in-49
 unfolding known known_in commands
-returns-in-49 c = c.of_table-in-49.ensures ∙ sym (found (OnTable SendTable) _ c.in-49.is)
+returns-in-49 c = c.listed-in-49.ensures ∙ sym (found (OnTable SendTable) _ c.in-49.is)
 
 pub returns-in-50 : goal.returns-in-50
 unfolding known known_in commands
-returns-in-50 c = c.of_table-in-50.ensures ∙ sym (found (OnTable RemoveRecords) _ c.in-50.is)
+returns-in-50 c = c.listed-in-50.ensures ∙ sym (found (OnTable RemoveRecords) _ c.in-50.is)
 
 pub returns-in-51 : goal.returns-in-51
 unfolding known known_in commands
-returns-in-51 c = c.of_table-in-51.ensures ∙ sym (found (OnTable ClearRecords) _ c.in-51.is)
+returns-in-51 c = c.listed-in-51.ensures ∙ sym (found (OnTable ClearRecords) _ c.in-51.is)
 
 pub returns-in-82 : goal.returns-in-82
 unfolding known known_in commands
-returns-in-82 c = c.of_row.ensures ∙ sym (found (OnRow Baud) _ c.in-82.is)
+returns-in-82 c = c.listed-in-82.ensures ∙ sym (found (OnRow Baud) _ c.in-82.is)
 
 pub returns-in-99 : goal.returns-in-99
 unfolding known known_in commands
-returns-in-99 c = c.of_row-in-99.ensures ∙ sym (found (OnRow Reset) _ c.in-99.is)
+returns-in-99 c = c.listed-in-99.ensures ∙ sym (found (OnRow Reset) _ c.in-99.is)
 
 pub returns-in-100 : goal.returns-in-100
 unfolding known known_in commands
-returns-in-100 c = c.of_table-in-100.ensures ∙ sym (found (OnTable SystemReset) _ c.in-100.is)
+returns-in-100 c = c.listed-in-100.ensures ∙ sym (found (OnTable SystemReset) _ c.in-100.is)
 
 pub returns-in-128 : goal.returns-in-128
 unfolding known known_in commands
-returns-in-128 c = c.of_row-in-128.ensures ∙ sym (found (OnRow ReadBlock) _ c.in-128.is)
+returns-in-128 c = c.listed-in-128.ensures ∙ sym (found (OnRow ReadBlock) _ c.in-128.is)
 
 pub returns-in-129 : goal.returns-in-129
 unfolding known known_in commands
-returns-in-129 c = c.of_row-in-129.ensures ∙ sym (found (OnRow WriteBlock) _ c.in-129.is)
+returns-in-129 c = c.listed-in-129.ensures ∙ sym (found (OnRow WriteBlock) _ c.in-129.is)
 
 pub returns-in-130 : goal.returns-in-130
 unfolding known known_in commands
-returns-in-130 c = c.of_row-in-130.ensures ∙ sym (found (OnRow SaveBlocks) _ c.in-130.is)
+returns-in-130 c = c.listed-in-130.ensures ∙ sym (found (OnRow SaveBlocks) _ c.in-130.is)
 
 pub returns-in-131 : goal.returns-in-131
 unfolding known known_in commands
-returns-in-131 c = c.of_row-in-131.ensures ∙ sym (found (OnRow RestoreBlocks) _ c.in-131.is)
+returns-in-131 c = c.listed-in-131.ensures ∙ sym (found (OnRow RestoreBlocks) _ c.in-131.is)
 
 pub returns-in-132 : goal.returns-in-132
 unfolding known known_in commands
@@ -59,15 +59,15 @@ returns-in-132 c = sym (ap known c.in-132.is)
 
 pub returns-in-133 : goal.returns-in-133
 unfolding known known_in commands
-returns-in-133 c = c.of_row-in-133.ensures ∙ sym (found (OnRow SetTimer) _ c.in-133.is)
+returns-in-133 c = c.listed-in-133.ensures ∙ sym (found (OnRow SetTimer) _ c.in-133.is)
 
 pub returns-in-134 : goal.returns-in-134
 unfolding known known_in commands
-returns-in-134 c = c.of_row-in-134.ensures ∙ sym (found (OnRow SendTimer) _ c.in-134.is)
+returns-in-134 c = c.listed-in-134.ensures ∙ sym (found (OnRow SendTimer) _ c.in-134.is)
 
 pub returns-in-160 : goal.returns-in-160
 unfolding known known_in commands
-returns-in-160 c = c.of_row-in-160.ensures ∙ sym (found (OnRow Login) _ c.in-160.is)
+returns-in-160 c = c.listed-in-160.ensures ∙ sym (found (OnRow Login) _ c.in-160.is)
 
 pub returns-in-0-to-33 : goal.returns-in-0-to-33
 unfolding known known_in commands

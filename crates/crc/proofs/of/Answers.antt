@@ -1,20 +1,18 @@
--- `crc::of` meets its contract. The loop's invariant: what is left of the octets, worked on from c, gives the checksum of all. Assumes nothing.
-use mathlib.Core.Path.{refl, sym, ◌∙◌}
-use native.Mathlib.Omega.{arith}
+-- `crc::of` meets its contract. Assumes nothing.
+use Rattle.std.proofs.Common.{refl, sym, ◌∙◌, arith}
 use Rattle.crc.specs.Crc.{crc}
 use Rattle.crc.proofs.Laws.{crc_from-next, crc_from-end}
 use Rattle.crc.proofs.of.Goals as goal
 
-pub loop-i-init : goal.loop-i-init
+pub loop-b-init : goal.loop-b-init
 unfolding crc
-loop-i-init c = (omega arith, refl)
+loop-b-init c = refl
 
-pub loop-i-preserved : goal.loop-i-preserved
-loop-i-preserved c =
-    let s = c.args.s.now in
-    let next = crc_from-next c.loop-i.c s c.loop-i.i (omega arith) in
-    (omega arith, rw c.octet-c.ensures (sym next ∙ c.loop-i.invariant.1))
+pub loop-b-preserved : goal.loop-b-preserved
+loop-b-preserved c =
+    let next = crc_from-next c.loop-b.c c.args.s.now c.loop-b.b-index (omega arith) in
+    rw c.octet-c.ensures (sym next ∙ c.loop-b.invariant)
 
 pub returns : goal.returns
 returns c =
-    sym (crc_from-end c.loop-i.c c.args.s.now c.loop-i.i (omega arith)) ∙ c.loop-i.invariant.1
+    sym (crc_from-end c.loop-b.c c.args.s.now c.loop-b.b-index (omega arith)) ∙ c.loop-b.invariant

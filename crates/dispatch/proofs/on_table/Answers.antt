@@ -3,7 +3,7 @@ use Rattle.dispatch.proofs.Answers.{obeyed-for, sized-two}
 use Rattle.dispatch.proofs.on_table.Goals as goal
 
 pub read-requires : goal.read-requires
-read-requires c = (c.requires.0, c.requires.1, sized-two _ _ c.in-ReadRecords.is c.requires.2, c.requires.3)
+read-requires c = (c.requires.0, sized-two _ _ c.in-ReadRecords.is c.requires.1, c.requires.2)
 
 pub returns-in-SystemReset : goal.returns-in-SystemReset
 returns-in-SystemReset c = obeyed-for _ _ _ _ _ _ _ _ _ _ c.in-SystemReset.is (c.system_reset.ensures.obeyed _ _ _)

@@ -6,4 +6,4 @@ use Rattle.doings.proofs.tick_timer.Goals as goal
 pub returns : goal.returns
 unfolding stepped_row
 returns c =
-    c.set_timer.ensures ∙ rw (c.octets_of-d.ensures, c.after_tick-u.ensures, c.read-t.ensures)
+    c.set_timer.ensures ∙ rw (c.octets_of.ensures, c.tick.ensures, c.read-t.ensures)

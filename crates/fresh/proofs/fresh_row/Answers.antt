@@ -6,6 +6,6 @@ use Rattle.fresh.proofs.fresh_row.Goals as goal
 
 pub returns : goal.returns
 returns c =
-    c.put16.ensures
+    c.put.ensures
     ∙ rw (c.put_memory-2.ensures, c.put_memory.ensures)
-    (row_made _ c.args.row.now _ (sym valid-default) c.requires c.fill.ensures)
+    (row_made _ c.args.row.now _ (sym valid-default) c.requires (c.fill.ensures.after (λ y same. same)))

@@ -5,4 +5,4 @@ use Rattle.fresh.proofs.make.Goals as goal
 
 pub returns : goal.returns
 returns c =
-    c.put_rows.ensures ∙ rw c.put_header.ensures (store-made c.args.s.now _ c.requires c.fill.ensures)
+    c.put_rows.ensures ∙ rw c.put_header.ensures (store-made c.args.s.now _ c.requires (c.fill.ensures.after (λ y same. same)))

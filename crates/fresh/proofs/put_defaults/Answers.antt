@@ -12,7 +12,7 @@ use Rattle.fresh.proofs.put_defaults.Goals as goal
 
 pub loop-k-init : goal.loop-k-init
 unfolding put
-loop-k-init c = (omega arith, refl, refl)
+loop-k-init c = (refl, refl)
 
 pub loop-k-preserved : goal.loop-k-preserved
 loop-k-preserved c =
@@ -20,9 +20,9 @@ loop-k-preserved c =
     let k = c.loop-k.k in
     let e : c.put_block.new.memory ≡ put 0 (take (block_size * (k + 1)) defaults) m =
     c.put_block.ensures
-    ∙ rw (c.default_block.ensures, c.loop-k.invariant.2) (written_next k defaults m (omega (arith, defaults-legal.size)))
+    ∙ rw (c.default_block.ensures, c.loop-k.invariant.1) (written_next k defaults m (omega (arith, defaults-legal.size)))
     in
-    (omega arith, ap length e ∙ put-length _ _ _, e)
+    (ap length e ∙ put-length _ _ _, e)
 
 pub returns : goal.returns
-returns c = c.loop-k.invariant.2 ∙ written_all c.loop-k.k _ (omega arith)
+returns c = c.loop-k.invariant.1 ∙ written_all c.loop-k.k _ (omega arith)

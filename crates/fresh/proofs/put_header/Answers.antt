@@ -5,4 +5,4 @@ use Rattle.fresh.proofs.put_header.Goals as goal
 
 pub returns : goal.returns
 returns c =
-    c.put16-3.ensures ∙ rw (c.put16-2.ensures, c.put16.ensures) (header_made _ _ _ _ refl refl refl)
+    c.put-3.ensures ∙ rw (c.put-2.ensures, c.put.ensures) (header_made _ _ _ _ refl refl refl)

@@ -14,7 +14,7 @@ use Rattle.fresh.proofs.put_rows.Goals as goal
 
 pub loop-d-init : goal.loop-d-init
 unfolding put joined
-loop-d-init c = (omega arith, refl, refl)
+loop-d-init c = (refl, refl)
 
 pub fresh_row-requires : goal.fresh_row-requires
 fresh_row-requires c = simp (length-take, length-drop) (omega arith)
@@ -27,11 +27,11 @@ loop-d-preserved c =
     let made = c.fresh_row in
     let e =
     put-mid at (at + row_width - at) made.new.row c.loop-d.s made.auto.row (omega arith)
-    ∙ rows_next row_width d rows_begin at fresh_row made.new.row s c.loop-d.s row-length refl made.ensures c.loop-d.invariant.2
+    ∙ rows_next row_width d rows_begin at fresh_row made.new.row s c.loop-d.s row-length refl made.ensures c.loop-d.invariant.1
     in
-    (omega arith, ap length e ∙ put-length _ _ _, e)
+    (ap length e ∙ put-length _ _ _, e)
 
 pub returns : goal.returns
 returns c =
     let all : c.loop-d.d ≡ desks = omega arith in
-    c.loop-d.invariant.2 ∙ ap (λ (k : ℕ). put rows_begin (joined (replicate k fresh_row)) c.args.s.now) all
+    c.loop-d.invariant.1 ∙ ap (λ (k : ℕ). put rows_begin (joined (replicate k fresh_row)) c.args.s.now) all

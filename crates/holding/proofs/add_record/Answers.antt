@@ -9,21 +9,17 @@ use Rattle.holding.proofs.add_record.Goals as goal
 pub append-requires : goal.append-requires
 append-requires c =
     let in-store = table-inside _ c.requires.0 _ _ c.start-at.ensures.0 c.used-n.ensures.0 in
-    simp (length-take, length-drop) (omega (arith, has_room _ c.requires.0 c.args.d c.requires.1 c.requires.2))
+    simp (length-take, length-drop) (omega (arith, has_room _ c.requires.0 c.args.d.number c.args.d.low c.requires.1))
 
-pub overflow_cast-n : goal.overflow_cast-n
-overflow_cast-n c =
-    omega (arith, has_room _ c.requires.0 c.args.d c.requires.1 c.requires.2)
-
-pub put16-requires : goal.put16-requires
-put16-requires c =
+pub put-requires : goal.put-requires
+put-requires c =
     omega (arith, back-size _ c.requires.0 _ _ c.start-at.ensures.0 c.used-n.ensures.0 _ _ _ c.append.ensures)
 
 pub returns : goal.returns
 returns c =
-    rw c.put16.ensures
-    (added-says c.args.s.now c.requires.0 c.start-at.result c.used-n.result c.start-at.ensures.0 c.used-n.ensures.0 c.args.d c.requires.1
-    c.requires.2 c.args.r c.append.new.t c.requires.3 c.append.ensures)
+    rw c.put.ensures
+    (added-says c.args.s.now c.requires.0 c.start-at.result c.used-n.result c.start-at.ensures.0 c.used-n.ensures.0 c.args.d.number c.args.d.low
+    c.requires.1 c.args.r c.append.new.t c.requires.2 c.append.ensures)
 
 pub start-at-requires : goal.start-at-requires
 start-at-requires c = (lit< tt, omega (arith, sound-size _ c.requires.0))

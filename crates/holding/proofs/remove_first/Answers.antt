@@ -2,22 +2,18 @@
 use lib.Dec.{lit<}
 use native.Mathlib.Omega.{arith}
 use Rattle.keeping.proofs.Rows.{sound-size}
-use Rattle.holding.proofs.Records.{table-inside, table_fits, fewer-left, back-size, removed-says}
+use Rattle.holding.proofs.Records.{table-inside, table_fits, back-size, removed-says}
 use Rattle.holding.proofs.remove_first.Goals as goal
 
-pub overflow_cast-left : goal.overflow_cast-left
-overflow_cast-left c =
-    record { fits = omega (arith, c.remove-left.ensures.value, fewer-left _ c.requires.0 _ _ c.start-at.ensures.0 c.used-n.ensures.0 c.args.d c.requires.1 c.args.k) }
-
-pub put16-requires : goal.put16-requires
-put16-requires c =
+pub put-requires : goal.put-requires
+put-requires c =
     omega (arith, back-size _ c.requires.0 _ _ c.start-at.ensures.0 c.used-n.ensures.0 _ _ _ c.remove-left.ensures.t_after)
 
 pub returns : goal.returns
 returns c =
-    rw c.put16.ensures
-    (removed-says c.args.s.now c.requires.0 c.start-at.result c.used-n.result c.start-at.ensures.0 c.used-n.ensures.0 c.args.d c.requires.1 c.args.k
-    c.remove-left.result c.remove-left.new.t c.remove-left.ensures.value c.remove-left.ensures.t_after c.requires.2)
+    rw c.put.ensures
+    (removed-says c.args.s.now c.requires.0 c.start-at.result c.used-n.result c.start-at.ensures.0 c.used-n.ensures.0 c.args.d.number c.args.d.low c.args.k
+    c.remove-left.result c.remove-left.new.t c.remove-left.ensures.value c.remove-left.ensures.t_after c.requires.1)
 
 pub start-at-requires : goal.start-at-requires
 start-at-requires c = (lit< tt, omega (arith, sound-size _ c.requires.0))

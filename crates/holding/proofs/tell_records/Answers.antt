@@ -5,24 +5,21 @@ use Rattle.octets.proofs.Puts.{put-length}
 use mathlib.Core.Path.{◌≡◌, ap, ◌∙◌}
 use native.Mathlib.Omega.{arith}
 use Rattle.keeping.proofs.Rows.{sound-size}
-use Rattle.holding.proofs.Records.{few-held, table-inside, table_fits, counted_back}
+use Rattle.holding.proofs.Records.{table-inside, table_fits, counted_back}
 use Rattle.holding.proofs.tell_records.Goals as goal
-use Rattle.holding.proofs.tell_records.Goals.{After-put16}
+use Rattle.holding.proofs.tell_records.Goals.{After-put}
 
-same : (c : After-put16) → length c.put16.new.s ≡ length c.args.out.now
-same c = ap length c.put16.ensures ∙ put-length _ _ _
+same : (c : After-put) → length c.put.new.s ≡ length c.args.out.now
+same c = ap length c.put.ensures ∙ put-length _ _ _
 
 pub gather-requires : goal.gather-requires
 gather-requires c =
-    (table_fits _ c.requires.0 _ _ c.start-from.ensures.0 c.used-used.ensures.0, simp (length-take, length-drop) (omega (arith, same (goal.at.gather-requires c).After-put16)))
+    (table_fits _ c.requires.0 _ _ c.start-from.ensures.0 c.used-used.ensures.0, simp (length-take, length-drop) (omega (arith, same (goal.at.gather-requires c).After-put)))
 
 pub returns : goal.returns
 returns c =
-    counted_back c.args.s.now c.requires.0 c.start-from.result c.used-used.result c.start-from.ensures.0 c.used-used.ensures.0 c.args.d c.requires.1
-    c.args.n c.args.at c.args.out.now c.put16.new.s _ c.requires.2 c.requires.3 c.put16.ensures c.gather.ensures.out_after
-
-pub overflow_cast-n : goal.overflow_cast-n
-overflow_cast-n c = record { fits = omega (arith, few-held _ c.requires.0 c.args.d c.requires.1) }
+    counted_back c.args.s.now c.requires.0 c.start-from.result c.used-used.result c.start-from.ensures.0 c.used-used.ensures.0 c.args.d.number c.args.d.low
+    c.args.n c.args.at c.args.out.now c.put.new.s _ c.requires.1 c.requires.2 c.put.ensures c.gather.ensures.out_after
 
 pub start-from-requires : goal.start-from-requires
 start-from-requires c = (lit< tt, omega (arith, sound-size _ c.requires.0))

@@ -18,28 +18,28 @@ inside : (c : In-loop-k) → 2 + record_width * c.loop-k.k + record_width ≤ le
 inside c = omega (arith, records-fit c.args.sent.now (c.loop-k.k + 1) (omega arith))
 
 -- and there is room for its line
-fits : (c : In-loop-k) → c.loop-k.at + width_of c.args.block.now ≤ length c.loop-k.out
-fits c = omega (arith, turn-room (width_of c.args.block.now) c.loop-k.k c.args.m (omega arith))
+fits : (c : In-loop-k) → c.loop-k.at + width_of c.args.shape.now.block ≤ length c.loop-k.out
+fits c = omega (arith, turn-room (width_of c.args.shape.now.block) c.loop-k.k c.args.m (omega arith))
 
 pub loop-k-init : goal.loop-k-init
 unfolding put
-loop-k-init c = (omega arith, sym (mul-zero _), refl, rw none_first)
+loop-k-init c = (sym (mul-zero _), refl, rw none_first)
 
-pub put_line-wrote-requires : goal.put_line-wrote-requires
-put_line-wrote-requires c =
-    (c.requires.0, c.requires.1, simp (length-take, length-drop) (omega (arith, inside (goal.at.put_line-wrote-requires c).In-loop-k)), simp (length-take, length-drop) (omega (arith, fits (goal.at.put_line-wrote-requires c).In-loop-k)))
+pub put_line-at-requires : goal.put_line-at-requires
+put_line-at-requires c =
+    (simp (length-take, length-drop) (omega (arith, inside (goal.at.put_line-at-requires c).In-loop-k)), simp (length-take, length-drop) (omega (arith, fits (goal.at.put_line-at-requires c).In-loop-k)))
 
 pub loop-k-preserved : goal.loop-k-preserved
 loop-k-preserved c =
     let l = c.loop-k in
-    let e = line-turn c.args.block.now c.args.sent.now l.k l.at (length l.out - l.at) (2 + record_width * l.k + record_width - (2 + record_width * l.k)) c.put_line-wrote.new.out l.out c.args.out.now (omega arith) (omega arith) l.invariant.1 (omega (arith, fits (goal.at.loop-k-preserved c).In-loop-k)) (omega (arith, fits (goal.at.loop-k-preserved c).In-loop-k)) l.invariant.3 c.put_line-wrote.ensures.1 in
-    (omega arith, rw (add-one l.k, mul-suc) (omega arith), ap length e ∙ put-length _ _ _, e)
+    let e = line-turn c.args.shape.now.block c.args.sent.now l.k l.at (length l.out - l.at) (2 + record_width * l.k + record_width - (2 + record_width * l.k)) c.put_line-at.new.out l.out c.args.out.now (omega arith) (omega arith) l.invariant.0 (omega (arith, fits (goal.at.loop-k-preserved c).In-loop-k)) (omega (arith, fits (goal.at.loop-k-preserved c).In-loop-k)) l.invariant.2 c.put_line-at.ensures.1 in
+    (rw (add-one l.k, mul-suc) (omega arith), ap length e ∙ put-length _ _ _, e)
 
 pub returns : goal.returns
 returns c =
     let l = c.loop-k in
     let e : l.k ≡ c.args.m = omega arith in
-    (l.invariant.1 ∙ rw e, l.invariant.3 ∙ rw (all_first c.args.block.now c.args.sent.now l.k (e ∙ c.requires.2)))
+    (l.invariant.0 ∙ rw e, l.invariant.2 ∙ rw (all_first c.args.shape.now.block c.args.sent.now l.k (e ∙ c.requires.0)))
 
 pub overflow_mul-from : goal.overflow_mul-from
 overflow_mul-from c = omega (arith, inside c)

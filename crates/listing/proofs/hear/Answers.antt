@@ -1,19 +1,20 @@
 -- `listing::hear` meets its contract: a call takes some octets more, and no more than there are, and what it wrote lies in the output.
 -- Assumes nothing.
-use Rattle.std.proofs.Common.{refl, arith}
-use Rattle.taking.proofs.Bounds.{part-bounds, rest-bounds}
+use Rattle.std.proofs.Common.{◌<◌, length, refl, arith, rules, length-take, length-drop}
+use Rattle.taking.proofs.Bounds.{part-bounds}
 use Rattle.listing.proofs.hear.Goals as goal
 
 pub print-requires : goal.print-requires
 print-requires g c = (part-bounds _ _ _ _ refl c.take_part-p.ensures).within
 
-pub overflow_add-at : goal.overflow_add-at
-overflow_add-at g c =
-    omega (arith, rest-bounds c.args.input.now c.loop-at.at _ _ _ refl c.loop-at-test.true c.take_part-p.ensures)
+pub slice_bounds-rest-count : goal.slice_bounds-rest-count
+slice_bounds-rest-count g c = (part-bounds _ _ _ _ refl c.take_part-p.ensures).most
 
-pub loop-at-smaller : goal.loop-at-smaller
-loop-at-smaller g c =
-    omega (arith, rest-bounds c.args.input.now c.loop-at.at _ _ _ refl c.loop-at-test.true c.take_part-p.ensures)
+pub slice_bounds-rest-start : goal.slice_bounds-rest-start
+slice_bounds-rest-start g c = (part-bounds _ _ _ _ refl c.take_part-p.ensures).most
 
-pub loop-at-preserved : goal.loop-at-preserved
-loop-at-preserved g c = (rest-bounds c.args.input.now c.loop-at.at _ _ _ refl c.loop-at-test.true c.take_part-p.ensures).1
+pub loop-rest-smaller : goal.loop-rest-smaller
+loop-rest-smaller g c =
+    let b = part-bounds _ _ _ _ refl c.take_part-p.ensures in
+    let left : 0 < length c.loop-rest.rest.now = search rules in
+    simp (length-take, length-drop) (omega (arith, b.most, b.some left))

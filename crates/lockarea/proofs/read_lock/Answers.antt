@@ -3,4 +3,4 @@ use Rattle.lockarea.proofs.Stored.{lock-at}
 use Rattle.lockarea.proofs.read_lock.Goals as goal
 
 pub returns : goal.returns
-returns c = rw (lock-at, c.get16-left.ensures, c.number64-uid.ensures)
+returns c = rw (lock-at, c.get16.ensures, c.number.ensures)

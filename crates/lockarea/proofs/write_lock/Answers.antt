@@ -3,4 +3,4 @@ use Rattle.lockarea.proofs.Stored.{put-lock}
 use Rattle.lockarea.proofs.write_lock.Goals as goal
 
 pub returns : goal.returns
-returns c = rw put-lock (rw c.put64.ensures at c.put16.ensures)
+returns c = rw (put-lock, ← c.put.ensures, ← c.from.ensures) c.put-2.ensures

@@ -1,6 +1,6 @@
 -- `maker::put_frame` meets its contract: the data are put where the frame of its kind has them, and it is sealed. Assumes nothing.
 use Prim.Native.Nat.{◌+◌, ◌≤◌}
-use mathlib.Core.Path.{◌≡◌, sym, ap, ◌∙◌}
+use mathlib.Core.Path.{◌≡◌, ap, ◌∙◌}
 use mathlib.Core.Bool.{not}
 use native.Mathlib.Omega.{arith}
 use lib.ListN.{length, length-take, length-drop}
@@ -9,7 +9,7 @@ use Rattle.frame.specs.declared.Frame.{Frame}
 use Rattle.frame.specs.declared.Way.TheVariants.{Request}
 use Rattle.frame.specs.Shape.{data_at}
 use Rattle.requests.specs.Request.{fields_hold, denied, in_range}
-use Rattle.maker.proofs.Making.{framed, never-not, data-room}
+use Rattle.maker.proofs.Making.{framed, data-room}
 use Rattle.maker.proofs.put_frame.Goals as goal
 use Rattle.maker.proofs.put_frame.Goals.{After-frame_of-f}
 
@@ -26,17 +26,12 @@ unfolding in_range
 put_data-requires c =
     (and_left (fields_hold c.args.q.ask) (not (denied c.args.q)) c.requires.1, simp (length-take, length-drop) (omega (arith, roomy (goal.at.put_data-requires c).After-frame_of-f, c.requires.2)))
 
-pub returns-in-Octets : goal.returns-in-Octets
-returns-in-Octets c =
+pub returns : goal.returns
+returns c =
     let s = c.put_data.new.out in
     framed c.args.q c.args.out.now s c.frame_of-f.result.start c.args.len c.args.control c.requires.0 c.requires.1 c.requires.2 c.requires.4
-    (start (goal.at.returns-in-Octets c).After-frame_of-f) c.requires.3 c.put_data.ensures _ _ (sym (c.seal_request.ensures.value ∙ rw c.frame_of-f.ensures) ∙ c.in-Octets.is) (c.seal_request.ensures.out_after ∙ rw c.frame_of-f.ensures)
-
-pub returns-in-Not : goal.returns-in-Not
-returns-in-Not c =
-    let s = c.put_data.new.out in
-    absurd (never-not c.args.q c.args.out.now s c.frame_of-f.result.start c.args.len c.args.control c.requires.0 c.requires.1 c.requires.2 c.requires.4
-    (start (goal.at.returns-in-Not c).After-frame_of-f) c.requires.3 c.put_data.ensures (sym (c.seal_request.ensures.value ∙ rw c.frame_of-f.ensures) ∙ c.in-Not.is))
+    (start (goal.at.returns c).After-frame_of-f) c.requires.3 c.put_data.ensures _ _ _ (c.seal_request.ensures.value ∙ rw c.frame_of-f.ensures)
+    c.ok_or.ensures.value (c.seal_request.ensures.out_after ∙ rw c.frame_of-f.ensures)
 
 pub slice_bounds-put_data-count : goal.slice_bounds-put_data-count
 slice_bounds-put_data-count c = omega (arith, roomy (goal.at.slice_bounds-put_data-count c).After-frame_of-f)

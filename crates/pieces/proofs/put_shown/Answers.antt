@@ -18,11 +18,8 @@ returns-then-usage-eq2 c =
     let e = shown-hex a.usage a.s.now c.if-usage-eq2.true in
     (rw e (omega (arith, hex-length a.s.now)), rw e c.put_hex.ensures)
 
-pub copy_to-requires : goal.copy_to-requires
-copy_to-requires c = rw (shown-raw _ _ c.if-usage-eq2.false) at c.requires
+pub put_raw-requires : goal.put_raw-requires
+put_raw-requires c = rw (shown-raw _ _ c.if-usage-eq2.false) at c.requires
 
-pub returns : goal.returns
-returns c =
-    let a = c.args in
-    let e = shown-raw a.usage a.s.now c.if-usage-eq2.false in
-    (rw e, rw e c.copy_to.ensures)
+pub returns-else-usage-eq2 : goal.returns-else-usage-eq2
+returns-else-usage-eq2 c = rw (shown-raw _ _ c.if-usage-eq2.false) c.put_raw.ensures

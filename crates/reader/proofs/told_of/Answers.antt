@@ -10,8 +10,8 @@ use Rattle.reader.proofs.told_of.Goals as goal
 pub overflow_sub-result : goal.overflow_sub-result
 overflow_sub-result c = omega (arith, reply-start _ _ c.requires)
 
-pub bounds-reply-start : goal.bounds-reply-start
-bounds-reply-start c =
+pub bounds-reply-f : goal.bounds-reply-f
+bounds-reply-f c =
     omega (arith, reply-start _ _ c.requires, sound-fits Reply _ _ c.requires)
 
 pub returns : goal.returns

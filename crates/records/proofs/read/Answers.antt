@@ -14,16 +14,16 @@ asked c q = c.if-asked-eq0.false (c.get16-asked.ensures ∙ q)
 
 pub send-requires : goal.send-requires
 send-requires c =
-    (c.requires.0, c.requires.1, omega (arith, c.least.ensures.2, c.held-there.ensures.0), c.requires.3)
+    (c.requires.0, omega (arith, c.min.ensures, c.held-there.ensures.0), c.requires.2)
 
 pub returns-then-asked-eq0 : goal.returns-then-asked-eq0
 returns-then-asked-eq0 c =
-    plain-obeyed _ c.requires.0 _ c.requires.1 _ _ 0x11 _ _ (none-asked _ _ _ (sym c.get16-asked.ensures ∙ c.if-asked-eq0.true)) c.plain.ensures
+    plain-obeyed _ c.requires.0 _ c.args.d.low _ _ 0x11 _ _ (none-asked _ _ _ (sym c.get16-asked.ensures ∙ c.if-asked-eq0.true)) c.plain.ensures
 
 pub returns-then-there-eq0 : goal.returns-then-there-eq0
 returns-then-there-eq0 c =
-    plain-obeyed _ c.requires.0 _ c.requires.1 _ _ 0x92 _ _ (none-held _ _ _ (asked (goal.at.returns-then-there-eq0 c).Else-asked-eq0) (sym c.held-there.ensures.0 ∙ c.if-there-eq0.true)) c.plain-then-there-eq0.ensures
+    plain-obeyed _ c.requires.0 _ c.args.d.low _ _ 0x92 _ _ (none-held _ _ _ (asked (goal.at.returns-then-there-eq0 c).Else-asked-eq0) (sym c.held-there.ensures.0 ∙ c.if-there-eq0.true)) c.plain-then-there-eq0.ensures
 
 pub returns : goal.returns
 returns c =
-    rw (some-sent c.args.kind (kept c.args.d c.args.s.now) c.args.body.now (asked (goal.at.returns c).Else-asked-eq0) (λ q. c.if-there-eq0.false (c.held-there.ensures.0 ∙ q)) c.least.result (c.least.ensures.0 ∙ rw (c.get16-asked.ensures, c.held-there.ensures.0))) c.send.ensures
+    rw (some-sent c.args.kind (kept c.args.d.number c.args.s.now) c.args.body.now (asked (goal.at.returns c).Else-asked-eq0) (λ q. c.if-there-eq0.false (c.held-there.ensures.0 ∙ q)) c.min.result (c.min.ensures ∙ rw (c.get16-asked.ensures, c.held-there.ensures.0))) c.send.ensures

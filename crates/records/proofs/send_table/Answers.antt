@@ -5,4 +5,4 @@ use Rattle.records.proofs.send_table.Goals as goal
 
 pub returns : goal.returns
 returns c =
-    table-sent _ c.requires.0 _ c.requires.1 _ _ _ _ _ _ _ _ _ c.data_at-to.ensures.0 c.marks_of.ensures c.held.ensures.0 refl c.put16.ensures c.put16-2.ensures c.put16-3.ensures
+    table-sent _ c.requires.0 _ c.args.d.low _ _ _ _ _ _ _ _ _ c.data_at-to.ensures.0 c.marks_of.ensures c.held.ensures.0 refl c.put.ensures c.put-2.ensures c.put-3.ensures

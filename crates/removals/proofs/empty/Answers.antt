@@ -4,8 +4,8 @@ use Rattle.removals.proofs.empty.Goals as goal
 
 pub remove_first-requires : goal.remove_first-requires
 remove_first-requires c =
-    (c.act.ensures.still, c.requires.1, bare-legal _ c.requires.0 _ c.requires.1 _ c.requires.2 _ c.act.ensures)
+    (c.act.ensures.still, bare-legal _ c.requires.0 _ c.args.d.low _ c.requires.1 _ c.act.ensures)
 
 pub returns : goal.returns
 returns c =
-    emptied _ c.requires.0 _ c.requires.1 _ c.requires.2 _ _ _ c.plain.ensures c.act.ensures c.remove_first.ensures
+    emptied _ c.requires.0 _ c.args.d.low _ c.requires.1 _ _ _ c.plain.ensures c.act.ensures c.remove_first.ensures

@@ -1,16 +1,8 @@
 -- `rows::restart` meets its contract. Assumes nothing.
 use mathlib.Core.Path.{ap, ◌∙◌}
 use mathlib.Core.Bool.{false}
-use mathlib.Core.Logic.{inl, inr}
-use native.Mathlib.Omega.{arith}
 use Rattle.rows.specs.Row.{login_row, unlocked_row, loaded_row, valid_row, restarted_row}
 use Rattle.rows.proofs.restart.Goals as goal
-
-pub move_within-requires : goal.move_within-requires
-move_within-requires c = (omega arith, omega arith, inl (omega arith))
-
-pub move_within-requires-2 : goal.move_within-requires-2
-move_within-requires-2 c = (omega arith, omega arith, inr (omega arith))
 
 pub returns : goal.returns
 unfolding loaded_row valid_row restarted_row

@@ -15,5 +15,5 @@ returns c =
     let at = c.memory_at-at.result in
     let b = c.default_block.ensures in
     put-lent at (at + memory_size - at) (block_size * c.args.k) c.default_block.result _ c.args.row.now c.put_block.ensures
-    (omega (arith, c.requires.0, c.memory_at-at.ensures.1)) (omega (arith, c.requires.1, ap length b, length-block defaults defaults-legal c.args.k c.requires.1))
+    (omega (arith, c.memory_at-at.ensures.1)) (omega (arith, c.requires, ap length b, length-block defaults defaults-legal c.args.k c.requires))
     ∙ rw (c.memory_at-at.ensures.0, b)

@@ -8,10 +8,10 @@ use Rattle.rows.proofs.tick_locks.Goals as goal
 pub overflow_cast-row : goal.overflow_cast-row
 unfolding part
 overflow_cast-row c =
-    record { fits = omega (arith, swept-few c.args.row.now c.requires.1) }
+    record { fits = omega (arith, swept-few c.args.row.now c.requires) }
 
 pub returns : goal.returns
 unfolding part swept_row
 returns c =
     let row = c.args.row.now in
-    locks-back row _ _ _ c.requires.0 (swept-few row c.requires.1) c.tick-k.ensures.1 c.tick-k.ensures.0
+    locks-back row _ _ _ (omega arith) (swept-few row c.requires) c.tick-k.ensures.1 c.tick-k.ensures.0

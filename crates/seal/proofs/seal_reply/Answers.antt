@@ -1,9 +1,9 @@
 -- `seal::seal_reply` meets its contract: the status is the first octet of the body. Assumes nothing.
+use Rattle.std.specs.Prelude.{Some}
 use native.Mathlib.Omega.{arith}
 use mathlib.Core.Path.{sym, ap, ◌∙◌}
 use lib.ListN.{length-set}
 use Rattle.frame.proofs.Bounds.{lead-small, longest-small}
-use Rattle.seal.specs.declared.Sealed.TheVariants.{Octets}
 use Rattle.seal.specs.Buffer.{sealed_as, reply_in}
 use Rattle.seal.proofs.Room.{within, status-as-body}
 use Rattle.seal.proofs.Seal.{replied}
@@ -42,7 +42,7 @@ returns c =
     let a = c.args in
     let yes = sym c.has_room.ensures ∙ c.if-not-has_room.false in
     let room = (within _ _ _ _ yes).1 in record {
-      value = rw yes (ap Octets (omega arith));
+      value = rw yes (ap Some (omega arith));
       out_after = rw (yes, c.close.ensures.out_after, c.lead-at.ensures)
           (replied a.kind a.address a.control a.status a.len a.out.now room);
     }

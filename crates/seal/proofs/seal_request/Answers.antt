@@ -1,6 +1,6 @@
 -- `seal::seal_request` meets its contract. Assumes nothing.
+use Rattle.std.specs.Prelude.{Some}
 use mathlib.Core.Path.{ap}
-use Rattle.seal.specs.declared.Sealed.TheVariants.{Octets}
 use mathlib.Core.Path.{sym, ◌∙◌}
 use Rattle.seal.specs.Buffer.{sealed_as, request_in}
 use Rattle.seal.proofs.seal_request.Goals as goal
@@ -18,4 +18,4 @@ pub returns : goal.returns
 unfolding sealed_as request_in
 returns c =
     let yes = sym c.has_room.ensures ∙ c.if-not-has_room.false in
-    record { value = rw yes (ap Octets c.close.ensures.value); out_after = rw yes c.close.ensures.out_after }
+    record { value = rw yes (ap Some c.close.ensures.value); out_after = rw yes c.close.ensures.out_after }

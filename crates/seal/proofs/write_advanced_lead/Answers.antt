@@ -7,7 +7,7 @@ use Rattle.octets.proofs.Joins.{put_next}
 use Rattle.seal.proofs.write_advanced_lead.Goals as goal
 
 pub shape_of-out : goal.shape_of-out
-shape_of-out c = c.put16.auto.s ∙ simp length-set
+shape_of-out c = c.put.auto.s ∙ simp length-set
 
 pub returns : goal.returns
-returns c = rw (c.put16.ensures, ← put_one) (put_next (2 ∷ []) _ _ 1 refl)
+returns c = rw (c.put.ensures, ← put_one) (put_next (2 ∷ []) _ _ 1 refl)

@@ -7,4 +7,4 @@ use Rattle.sightings.proofs.record_of.Goals as goal
 
 pub returns : goal.returns
 unfolding record_of timer_octets octets put
-returns c = rw (c.copy_to.ensures, c.octets_of-q.ensures, c.put64.ensures)
+returns c = rw (c.copy_to.ensures, c.octets_of.ensures, c.put.ensures)

@@ -6,17 +6,17 @@ use Rattle.sightings.proofs.Ticks.{ticked-none, ticked-more, ticked-all}
 use Rattle.sightings.proofs.tick.Goals as goal
 
 pub loop-d-init : goal.loop-d-init
-loop-d-init c = (omega arith, ticked-none _ c.requires)
+loop-d-init c = ticked-none _ c.requires
 
-pub tick_desk-requires : goal.tick_desk-requires
-tick_desk-requires c = (c.loop-d.invariant.1.still, omega arith)
+pub invariant_of-tick_desk : goal.invariant_of-tick_desk
+invariant_of-tick_desk c = omega arith
 
 pub loop-d-preserved : goal.loop-d-preserved
 loop-d-preserved c =
-    (omega arith, ticked-more _ _ _ _ (omega arith) c.loop-d.invariant.1 c.tick_desk.ensures)
+    ticked-more _ _ _ _ (omega arith) c.loop-d.invariant c.tick_desk.ensures
 
 pub shape_of-s : goal.shape_of-s
-shape_of-s c = sound-size _ c.loop-d.invariant.1.still ∙ sym (sound-size _ c.requires)
+shape_of-s c = sound-size _ c.loop-d.invariant.still ∙ sym (sound-size _ c.requires)
 
 pub returns : goal.returns
-returns c = ticked-all _ _ _ (omega arith) c.loop-d.invariant.1
+returns c = ticked-all _ _ _ (omega arith) c.loop-d.invariant

@@ -6,4 +6,4 @@ use Rattle.sightings.proofs.tick_desk.Goals as goal
 
 pub act-requires : goal.act-requires
 act-requires c =
-    (c.requires.0, c.requires.1, desk-test _ (ticked-legal _ (kept-legal c.args.s.now c.requires.0 c.args.d c.requires.1)))
+    (c.requires, desk-test _ (ticked-legal _ (kept-legal c.args.s.now c.requires c.args.d.number c.args.d.low)))

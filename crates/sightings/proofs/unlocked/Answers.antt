@@ -9,32 +9,31 @@ use Rattle.sightings.proofs.unlocked.Goals.{After-record_of}
 
 -- the record that was made is that of this sighting
 new : (c : After-record_of)
-    → Recording c.args.d c.args.uid c.args.mask c.record_of.result c.args.s.now
+    → Recording c.args.d.number c.args.uid c.args.mask c.record_of.result c.args.s.now
 new c =
-    recording c.args.s.now c.requires.0 c.args.d c.requires.1 c.args.uid c.args.mask c.ranges.uid.fits c.ranges.mask.fits c.requires.2
+    recording c.args.s.now c.requires.0 c.args.d.number c.args.d.low c.args.uid c.args.mask c.ranges.uid.fits c.ranges.mask.fits c.requires.1
     (omega (arith, c.if-held.false, c.held.ensures.0)) c.record_of.result
     (c.record_of.ensures ∙ ap (λ (t : Timer). record_of c.args.uid t c.args.mask) c.timer_of-t.ensures)
 
 pub act-requires : goal.act-requires
 act-requires c = (
   c.requires.0,
-  c.requires.1,
-  mark-legal c.args.s.now c.requires.0 c.args.d c.requires.1 c.args.uid c.args.mask c.ranges.uid.fits c.ranges.mask.fits c.requires.2
+  mark-legal c.args.s.now c.requires.0 c.args.d.number c.args.d.low c.args.uid c.args.mask c.ranges.uid.fits c.ranges.mask.fits c.requires.1
       (omega (arith, c.if-held.true, c.held.ensures.0)),
 )
 
 pub returns-then-held : goal.returns-then-held
 returns-then-held c =
-    lost c.args.s.now c.requires.0 c.args.d c.requires.1 c.args.uid c.args.mask c.ranges.uid.fits c.ranges.mask.fits c.requires.2
+    lost c.args.s.now c.requires.0 c.args.d.number c.args.d.low c.args.uid c.args.mask c.ranges.uid.fits c.ranges.mask.fits c.requires.1
     (omega (arith, c.if-held.true, c.held.ensures.0)) _ c.act.ensures
 
 pub add_record-requires : goal.add_record-requires
 add_record-requires c =
-    (c.requires.0, c.requires.1, omega (arith, c.if-held.false, c.held.ensures.0), (new c).legal)
+    (c.requires.0, omega (arith, c.if-held.false, c.held.ensures.0), (new c).legal)
 
 pub act-requires-2 : goal.act-requires-2
 act-requires-2 c =
-    (c.add_record.ensures.still, c.requires.1, (new (goal.at.act-requires-2 c).After-record_of).locks _ c.add_record.ensures)
+    (c.add_record.ensures.still, (new (goal.at.act-requires-2 c).After-record_of).locks _ c.add_record.ensures)
 
 pub returns : goal.returns
 returns c =

@@ -26,11 +26,11 @@ returns-then-not-clear_pair c =
 pub loop-i-preserved : goal.loop-i-preserved
 loop-i-preserved c =
     let l = c.loop-i in
-    (omega arith, every_more l.i _ l.invariant.1 (sym c.clear_pair.ensures ∙ c.if-not-clear_pair.false))
+    every_more l.i _ l.invariant (sym c.clear_pair.ensures ∙ c.if-not-clear_pair.false)
 
 pub returns : goal.returns
 returns c =
-    rw (← ends (goal.at.returns c).After-size, le-leb _ _ c.if-start-size-gt-SIZE.false) (sym (every-end _ _ c.loop-i.i c.loop-i.invariant.1 (omega arith)))
+    rw (← ends (goal.at.returns c).After-size, le-leb _ _ c.if-start-size-gt-SIZE.false) (sym (every-end _ _ c.loop-i.i c.loop-i.invariant (omega arith)))
 
 pub loop-i-init : goal.loop-i-init
-loop-i-init c = (omega arith, every-none _)
+loop-i-init c = every-none _

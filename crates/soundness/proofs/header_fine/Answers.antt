@@ -14,13 +14,13 @@ returns-then-not-area_fits c = rw (every-false area_count (area_fits _) c.loop-k
 pub loop-k-preserved : goal.loop-k-preserved
 loop-k-preserved c =
     let l = c.loop-k in
-    (omega arith, every_more l.k _ l.invariant.1 (sym c.area_fits.ensures ∙ c.if-not-area_fits.false))
+    every_more l.k _ l.invariant (sym c.area_fits.ensures ∙ c.if-not-area_fits.false)
 
 pub returns : goal.returns
 unfolding fine
 returns c =
     let l = c.loop-k in
-    rw (every-end area_count (area_fits _) l.k l.invariant.1 (omega arith), ← c.used.ensures.0) refl
+    rw (every-end area_count (area_fits _) l.k l.invariant (omega arith), ← c.used.ensures.0) refl
 
 pub loop-k-init : goal.loop-k-init
-loop-k-init c = (omega arith, every-none _)
+loop-k-init c = every-none _

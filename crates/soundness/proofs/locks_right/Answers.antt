@@ -17,7 +17,7 @@ returns-then-n-gt-MOST_LOCKS c =
     rw (field-octet row count_field refl, locks-in-length, lt-leb (get_or row count_at 0) most_locks (omega arith))
 
 pub overflow_cast-n : goal.overflow_cast-n
-overflow_cast-n c = omega (arith, c.type_inv.row count_at)
+overflow_cast-n c = omega (arith, c.fits-row count_at)
 
 pub returns : goal.returns
 unfolding field part

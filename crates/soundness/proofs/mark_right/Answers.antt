@@ -8,5 +8,5 @@ use Rattle.soundness.proofs.mark_right.Goals as goal
 pub returns-then-row-ne1 : goal.returns-then-row-ne1
 returns-then-row-ne1 c = rw (field-octet c.args.row.now mark_field refl, ne_eqb _ _ c.if-row-ne1.true)
 
-pub returns : goal.returns
-returns c = rw (field-octet c.args.row.now mark_field refl, eq-eqb _ _ c.if-row-ne1.false) refl
+pub returns-else-row-ne1 : goal.returns-else-row-ne1
+returns-else-row-ne1 c = rw (field-octet c.args.row.now mark_field refl, eq-eqb _ _ c.if-row-ne1.false) refl

@@ -5,10 +5,11 @@ use Rattle.store.proofs.FieldOctets.{memory-field}
 use Rattle.std.proofs.Common.{sym, ◌∙◌}
 use Rattle.soundness.proofs.memories_right.Goals as goal
 
-pub returns-then-not-memory_right : goal.returns-then-not-memory_right
-returns-then-not-memory_right c = rw (sym (memory-field _ ram_field _ _ c.memory_right.ensures refl refl) ∙ c.if-not-memory_right.true)
+pub returns-then-memory_right : goal.returns-then-memory_right
+returns-then-memory_right c =
+    rw (sym (memory-field _ ram_field _ _ c.memory_right.ensures refl refl) ∙ c.if-memory_right.true)
+    (memory-field _ eeprom_field _ _ c.memory_right-then-memory_right.ensures refl refl)
 
-pub returns : goal.returns
-returns c =
-    rw (sym (memory-field _ ram_field _ _ c.memory_right.ensures refl refl) ∙ c.if-not-memory_right.false)
-    (memory-field _ eeprom_field _ _ c.memory_right-2.ensures refl refl)
+pub returns-else-memory_right : goal.returns-else-memory_right
+returns-else-memory_right c =
+    rw (sym (memory-field _ ram_field _ _ c.memory_right.ensures refl refl) ∙ c.if-memory_right.false) c.if-memory_right.false

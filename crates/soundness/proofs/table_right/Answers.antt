@@ -20,7 +20,7 @@ returns-then-not-mark_right c =
     }
 
 pub overflow_cast-row : goal.overflow_cast-row
-overflow_cast-row c = omega (arith, c.type_inv.row due_at)
+overflow_cast-row c = omega (arith, c.fits-row due_at)
 
 pub returns-then-row-held : goal.returns-then-row-held
 returns-then-row-held c =

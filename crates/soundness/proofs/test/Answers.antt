@@ -9,14 +9,14 @@ pub returns-then-s-ne-SIZE : goal.returns-then-s-ne-SIZE
 unfolding sound
 returns-then-s-ne-SIZE c = rw (ne_eqb _ _ c.if-s-ne-SIZE.true)
 
-pub returns-then-not-header_fine : goal.returns-then-not-header_fine
-unfolding sound
-returns-then-not-header_fine c = rw (eq-eqb _ _ c.if-s-ne-SIZE.false, (sym c.header_fine.ensures ∙ c.if-not-header_fine.true))
-
 pub contents_sound-requires : goal.contents_sound-requires
-contents_sound-requires c = (search rules, (sym c.header_fine.ensures ∙ c.if-not-header_fine.false))
+contents_sound-requires c = (search rules, sym c.header_fine.ensures ∙ c.if-header_fine.true)
 
-pub returns : goal.returns
+pub returns-else-header_fine : goal.returns-else-header_fine
 unfolding sound
-returns c =
-    rw (eq-eqb _ _ c.if-s-ne-SIZE.false, (sym c.header_fine.ensures ∙ c.if-not-header_fine.false)) c.contents_sound.ensures
+returns-else-header_fine c = rw (eq-eqb _ _ c.if-s-ne-SIZE.false, sym c.header_fine.ensures ∙ c.if-header_fine.false) c.if-header_fine.false
+
+pub returns-then-header_fine : goal.returns-then-header_fine
+unfolding sound
+returns-then-header_fine c =
+    rw (eq-eqb _ _ c.if-s-ne-SIZE.false, sym c.header_fine.ensures ∙ c.if-header_fine.true) c.contents_sound.ensures

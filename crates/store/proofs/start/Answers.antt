@@ -9,5 +9,5 @@ pub returns-then-k-eq-HEADER_AREA : goal.returns-then-k-eq-HEADER_AREA
 unfolding start_of
 returns-then-k-eq-HEADER_AREA c = (rw c.if-k-eq-HEADER_AREA.true, omega arith)
 
-pub returns : goal.returns
-returns c = (c.get16.ensures ∙ sym (start-read _ _ c.requires.0 c.if-k-eq-HEADER_AREA.false), omega arith)
+pub returns-else-k-eq-HEADER_AREA : goal.returns-else-k-eq-HEADER_AREA
+returns-else-k-eq-HEADER_AREA c = (c.get16.ensures ∙ sym (start-read _ _ c.requires.0 c.if-k-eq-HEADER_AREA.false), omega arith)

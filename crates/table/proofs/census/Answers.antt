@@ -1,43 +1,40 @@
--- `table::census` meets its contract: after i turns the first i entries are counted (`Tallied`). Assumes nothing.
-use mathlib.Core.Path.{◌≡◌, refl, sym}
-use native.Mathlib.Numerals.{add-one}
-use native.Mathlib.Omega.{arith}
+-- `table::census` meets its contract: after i turns the first i entries are counted. Assumes nothing.
+use Rattle.std.proofs.Common.{◌≡◌, refl, add-one, arith}
 use lib.ListN.{length-set}
 use Rattle.octets.specs.Parts.{rows}
 use Rattle.octets.proofs.Rows.{rows_snoc, rows-length}
 use Rattle.table.specs.Entries.{width, desks, entries, entry_at}
 use Rattle.table.proofs.Desks.{records_of-length}
 use Rattle.table.proofs.Owners.{owners_below-past}
-use Rattle.table.proofs.Tallies.{tallied-start, tallied-step, counted-not}
+use Rattle.table.proofs.Tallies.{tallied-start, tallied-step}
 use Rattle.table.proofs.census.Goals as goal
 
 pub loop-i-init : goal.loop-i-init
 unfolding rows
-loop-i-init c = (omega arith, tallied-start, refl)
+loop-i-init c = (tallied-start, refl)
 
 pub returns-then-d-ge-DESKS : goal.returns-then-d-ge-DESKS
 returns-then-d-ge-DESKS c =
     let s = c.args in
-    counted-not (owners_below-past desks s.n c.loop-i.i s.t.now (omega arith) (omega (arith, c.owner_at-d.ensures)))
+    owners_below-past desks s.n c.loop-i.i s.t.now (omega arith) (omega (arith, c.owner_at-d.ensures))
 
-pub overflow_add-c : goal.overflow_add-c
-overflow_add-c c =
+pub overflow_add-counts : goal.overflow_add-counts
+overflow_add-counts c =
     let l = c.loop-i in
     let t = c.args.t.now in
     let d = c.owner_at-d.result in
-    omega (arith, l.invariant.1.count (sym l.invariant.1.told) d (omega arith), records_of-length d (entries l.i t), rows-length l.i width t)
+    omega (arith, l.invariant.0.1 d (omega arith), records_of-length d (entries l.i t), rows-length l.i width t)
 
 pub loop-i-preserved : goal.loop-i-preserved
 loop-i-preserved c =
     let l = c.loop-i in
     let t = c.args.t.now in (
-      omega arith,
       rw (add-one l.i, rows_snoc)
-          (tallied-step (entry_at l.i t) c.owner_at-d.result _ l.invariant.1 c.owner_at-d.ensures (omega arith) (omega arith) (omega arith)),
-      simp length-set l.invariant.2,
+          (tallied-step (entries l.i t) l.counts (entry_at l.i t) c.owner_at-d.result _ l.invariant.0 c.owner_at-d.ensures (omega arith) (omega arith) (omega arith)),
+      simp length-set l.invariant.1,
     )
 
 pub returns : goal.returns
 returns c =
     let past : c.loop-i.i ≡ c.args.n = omega arith in
-    rw (← past) c.loop-i.invariant.1
+    rw (← past) c.loop-i.invariant.0

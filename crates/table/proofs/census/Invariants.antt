@@ -1,13 +1,7 @@
--- `table::census` meets its contract: after i turns the first i entries are counted (`Tallied`). Assumes nothing.
-use mathlib.Core.Path.{◌≡◌}
-use Prim.Native.Nat.{◌-◌, ◌≤◌}
-use lib.ListN.{length}
-use Rattle.table.specs.Entries.{desks, entries}
-use Rattle.table.proofs.Tallies.{Tallied}
+-- Of `table::census`: the first i entries are counted. Assumes nothing.
+use Rattle.std.proofs.Common.{◌≡◌, length, Some}
+use Rattle.table.specs.Entries.{desks, entries, Counted}
 use Rattle.table.proofs.census.Given as goal
 
 abbrev pub invariant-loop-i : goal.invariant-loop-i
-invariant-loop-i l = (l.i ≤ l.n) × Tallied (entries l.i l.t) l.c × (length l.c ≡ desks)
-
-abbrev pub decreases-loop-i : goal.decreases-loop-i
-decreases-loop-i l = l.n - l.i
+invariant-loop-i l = Counted (entries l.i l.t) (Some l.counts) × (length l.counts ≡ desks)

@@ -7,6 +7,7 @@ use Rattle.octets.specs.Parts.{part}
 use Rattle.table.specs.Entries.{width, record_width}
 use Rattle.table.proofs.Gathers.{body-part, fetched_one, fetched-none}
 use Rattle.table.proofs.fetch.Goals as goal
+use Rattle.table.proofs.fetch.Goals.{else-c-m-via-then-c-m+else-owner_at-d, else-c-m-via-else-c-m}
 
 pub returns-then-owner_at-d : goal.returns-then-owner_at-d
 unfolding part
@@ -17,8 +18,10 @@ returns-then-owner_at-d c =
     (sym c.owner_at.ensures ∙ c.if-owner_at-d.true)
     (rw (len, ← body-part a.i a.t.now (omega arith)) at c.copy_to.ensures)
 
-pub returns-else-owner_at-d : goal.returns-else-owner_at-d
-returns-else-owner_at-d c = fetched-none (inr (λ q. c.if-owner_at-d.false (c.owner_at.ensures ∙ q)))
-
-pub returns-else-c-m : goal.returns-else-c-m
-returns-else-c-m c = fetched-none (inl c.if-c-m.false)
+pub returns : goal.returns
+returns c =
+    fetched-none
+    (elim c.else-c-m.branch [
+      | else-c-m-via-then-c-m+else-owner_at-d w ↦ inr (λ q. w.if-owner_at-d.false (w.owner_at.ensures ∙ q))
+      | else-c-m-via-else-c-m w ↦ inl w.if-c-m.false
+    ])

@@ -6,17 +6,16 @@ use Rattle.table.proofs.Gathers.{gathered-start, gathered-step}
 use Rattle.table.proofs.gather.Goals as goal
 
 pub loop-i-init : goal.loop-i-init
-loop-i-init c = (omega arith, gathered-start, refl)
+loop-i-init c = (gathered-start, refl)
 
 pub loop-i-preserved : goal.loop-i-preserved
 loop-i-preserved c =
     let r = c.fetch-c in (
-      omega arith,
-      rw (add-one c.loop-i.i) (gathered-step c.loop-i.invariant.1 (omega arith) r.ensures),
-      r.auto.out ∙ c.loop-i.invariant.2,
+      rw (add-one c.loop-i.i) (gathered-step c.loop-i.invariant.0 (omega arith) r.ensures),
+      r.auto.out ∙ c.loop-i.invariant.1,
     )
 
 pub returns : goal.returns
 returns c =
     let past : c.loop-i.i ≡ c.args.n = omega arith in
-    record { value = rw (← past) c.loop-i.invariant.1.count-is; out_after = rw (← past) c.loop-i.invariant.1.out-is }
+    record { value = rw (← past) c.loop-i.invariant.0.count-is; out_after = rw (← past) c.loop-i.invariant.0.out-is }

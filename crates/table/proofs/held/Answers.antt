@@ -12,7 +12,7 @@ use Rattle.table.proofs.held.Goals as goal
 
 pub loop-i-init : goal.loop-i-init
 unfolding rows records_of
-loop-i-init c = (omega arith, refl)
+loop-i-init c = refl
 
 pub overflow_add-c : goal.overflow_add-c
 overflow_add-c c =
@@ -27,9 +27,9 @@ overflow_add-c c =
 pub loop-i-preserved : goal.loop-i-preserved
 loop-i-preserved c =
     let i = c.loop-i.i in
-    (omega arith, rw (add-one i, rows_snoc, records_of-append, length-append) (omega arith))
+    rw (add-one i, rows_snoc, records_of-append, length-append) (omega arith)
 
 pub returns : goal.returns
 returns c =
     let past : c.loop-i.i ≡ c.args.n = omega arith in
-    rw (← past) c.loop-i.invariant.1
+    rw (← past) c.loop-i.invariant

@@ -6,20 +6,19 @@ use Rattle.table.proofs.Sweeps.{swept-start, swept_step, kept-le}
 use Rattle.table.proofs.remove.Goals as goal
 
 pub loop-i-init : goal.loop-i-init
-loop-i-init c = (omega arith, swept-start, refl)
+loop-i-init c = (swept-start, refl)
 
 pub settle-s-requires : goal.settle-s-requires
-settle-s-requires c = (kept-le c.loop-i.invariant.1, omega arith)
+settle-s-requires c = (kept-le c.loop-i.invariant.0, omega arith)
 
 pub loop-i-preserved : goal.loop-i-preserved
 loop-i-preserved c =
     let r = c.settle-s in (
-      omega arith,
-      rw (add-one c.loop-i.i) (swept_step c.loop-i.invariant.1 (omega arith) r.ensures),
-      r.auto.t ∙ c.loop-i.invariant.2,
+      rw (add-one c.loop-i.i) (swept_step c.loop-i.invariant.0 (omega arith) r.ensures),
+      r.auto.t ∙ c.loop-i.invariant.1,
     )
 
 pub returns : goal.returns
 returns c =
     let past : c.loop-i.i ≡ c.args.n = omega arith in
-    record { value = rw (← past) c.loop-i.invariant.1.kept-is; t_after = rw (← past) c.loop-i.invariant.1.table_is }
+    record { value = rw (← past) c.loop-i.invariant.0.kept-is; t_after = rw (← past) c.loop-i.invariant.0.table_is }

@@ -5,7 +5,7 @@ use native.Mathlib.Omega.{arith}
 use Rattle.table.proofs.Sweeps.{settled-gone, settled-kept}
 use borrow.Author.Rules.{rules}
 use Rattle.table.proofs.settle.Goals as goal
-use Rattle.table.proofs.settle.Goals.{then-s-gt0+else-owner_at-d, else-s-gt0}
+use Rattle.table.proofs.settle.Goals.{else-s-gt0-via-then-s-gt0+else-owner_at-d, else-s-gt0-via-else-s-gt0}
 
 pub returns-then-owner_at-d : goal.returns-then-owner_at-d
 returns-then-owner_at-d c = settled-gone (omega arith) (sym c.owner_at.ensures ∙ c.if-owner_at-d.true)
@@ -13,5 +13,5 @@ returns-then-owner_at-d c = settled-gone (omega arith) (sym c.owner_at.ensures �
 pub returns : goal.returns
 returns c =
     settled-kept
-    (elim c.if-s-gt0.branch [ then-s-gt0+else-owner_at-d w ↦ inr (λ q. w.if-owner_at-d.false (w.owner_at.ensures ∙ q)) | else-s-gt0 w ↦ inl (omega arith) ])
+    (elim c.else-s-gt0.branch [ else-s-gt0-via-then-s-gt0+else-owner_at-d w ↦ inr (λ q. w.if-owner_at-d.false (w.owner_at.ensures ∙ q)) | else-s-gt0-via-else-s-gt0 w ↦ inl (omega arith) ])
     (search rules)

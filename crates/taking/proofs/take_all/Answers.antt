@@ -7,34 +7,21 @@ use Rattle.text.specs.Listing.{longest_line}
 use Rattle.turning.proofs.Turns.{takes-within}
 use Rattle.taking.proofs.Onward.{onward-none, onward-more, took-end, took-full}
 use Rattle.taking.proofs.take_all.Goals as goal
-use Rattle.taking.proofs.take_all.Goals.{Else-out-p-lt-LONGEST}
 
 pub loop-p-init : goal.loop-p-init
-loop-p-init c = (search rules, search rules, search rules, search rules, search rules, search rules, onward-none _ _)
-
--- the next line has room
-room : (c : Else-out-p-lt-LONGEST) → let l = c.loop-p in l.p.written + longest_line ≤ length l.out
-room c = omega (arith, c.if-out-p-lt-LONGEST.false, c.loop-p.invariant.1)
-
-pub take-p-requires : goal.take-p-requires
-take-p-requires c = (search rules, room (goal.at.take-p-requires c).Else-out-p-lt-LONGEST)
+loop-p-init c = (search rules, search rules, onward-none _ _)
 
 pub loop-p-preserved : goal.loop-p-preserved
 loop-p-preserved c =
-    let l = c.loop-p in (
-      search rules,
-      takes-within _ _ _ (room (goal.at.loop-p-preserved c).Else-out-p-lt-LONGEST) c.take-p.ensures.1,
-      search rules,
-      search rules,
-      search rules,
-      search rules,
-      onward-more _ _ _ _ l.invariant.6 _ _ c.take-p.ensures.0 c.loop-p-test.true (room (goal.at.loop-p-preserved c).Else-out-p-lt-LONGEST) c.take-p.ensures.1,
-    )
-
-pub returns-then-out-p-lt-LONGEST : goal.returns-then-out-p-lt-LONGEST
-returns-then-out-p-lt-LONGEST c =
     let l = c.loop-p in
-    took-full _ _ _ _ l.invariant.6 c.loop-p-test.true (omega (arith, c.if-out-p-lt-LONGEST.true, l.invariant.1))
+    -- the next line has room
+    let room : l.p.written + longest_line ≤ length l.out = omega (arith, c.if-out-p-ge-LONGEST.true, l.invariant.1) in
+    (search rules, takes-within _ _ _ room c.take-p.ensures.1, onward-more _ _ _ _ l.invariant.2 _ _ c.take-p.ensures.0 c.loop-p-test.true room c.take-p.ensures.1)
 
-pub returns : goal.returns
-returns c = took-end _ _ _ _ c.loop-p.invariant.6 c.loop-p-test.false
+pub returns-else-out-p-ge-LONGEST : goal.returns-else-out-p-ge-LONGEST
+returns-else-out-p-ge-LONGEST c =
+    let l = c.loop-p in
+    took-full _ _ _ _ l.invariant.2 c.loop-p-test.true (omega (arith, c.if-out-p-ge-LONGEST.false, l.invariant.1))
+
+pub returns-after-loop-p : goal.returns-after-loop-p
+returns-after-loop-p c = took-end _ _ _ _ c.loop-p.invariant.2 c.loop-p-test.false

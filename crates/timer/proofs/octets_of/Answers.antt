@@ -5,4 +5,4 @@ use Rattle.timer.proofs.octets_of.Goals as goal
 
 pub returns : goal.returns
 unfolding timer_octets octets
-returns c = rw c.octets16-d.ensures
+returns c = rw (c.octets.ensures, c.from.ensures)

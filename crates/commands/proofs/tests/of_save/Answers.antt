@@ -1,16 +1,19 @@
 -- `commands::tests::of_save` meets its contract. Assumes nothing.
-use mathlib.Core.Path.{sym, ◌∙◌}
-use Rattle.octets.specs.Tests.{first}
-use Rattle.rules.specs.Command.{row_tests}
-use Rattle.commands.specs.Ruled.{said}
+use Rattle.std.proofs.Common.{◌≡◌, ◌||◌, not, sym, ◌∙◌}
+use Rattle.rules.specs.Config.{in_eeprom, names_some}
+use Rattle.rules.specs.Command.{adr_of, row_tests}
 use Rattle.commands.proofs.Answers.{one-test}
 use Rattle.commands.proofs.tests.of_save.Goals as goal
-
-pub returns-then-in_eeprom : goal.returns-then-in_eeprom
-unfolding first row_tests said
-returns-then-in_eeprom c = rw (sym c.in_eeprom.ensures ∙ c.if-in_eeprom.true)
+use Rattle.commands.proofs.tests.of_save.Goals.{then-in_eeprom, else-in_eeprom}
 
 pub returns : goal.returns
 unfolding row_tests
 returns c =
-    rw (sym c.in_eeprom.ensures ∙ c.if-in_eeprom.false, c.given.ensures, c.names_some.ensures) (one-test _)
+    let adr = adr_of c.args.body.now in
+    let wrong : c.if-in_eeprom.given ≡ (in_eeprom adr || not (names_some adr)) =
+    elim c.if-in_eeprom.branch [
+      | then-in_eeprom w ↦ rw (sym c.in_eeprom.ensures ∙ w.if-in_eeprom.true) (w.given-is ∙ w.if-in_eeprom.true)
+      | else-in_eeprom w ↦ rw (sym c.in_eeprom.ensures ∙ w.if-in_eeprom.false, ← w.names_some.ensures) w.given-is
+    ]
+    in
+    rw (c.given.ensures, wrong) (one-test _)

@@ -6,6 +6,6 @@ use Rattle.commands.proofs.tests.of_write.Goals as goal
 pub returns : goal.returns
 unfolding row_tests
 returns c =
-    rw (c.first_of-2.ensures, c.first_of.ensures)
+    rw (c.or-2.ensures, c.or.ensures)
     (rw (c.given-address.ensures, c.names_one.ensures, c.given-password.ensures, c.password_in_ram.ensures)
     (rw (c.given-bytes.ensures, c.unfit.ensures, c.block_of.ensures.0) (three-tests _ _ _)))

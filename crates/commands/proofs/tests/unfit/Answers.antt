@@ -4,10 +4,10 @@ use lib.Seq.{get_or-drop}
 use Rattle.rules.specs.Config.{line_legal}
 use Rattle.commands.proofs.tests.unfit.Goals as goal
 
-pub returns-then-k-ne7 : goal.returns-then-k-ne7
-returns-then-k-ne7 c = rw (ne_eqb c.args.k 7 c.if-k-ne7.true)
-
-pub returns : goal.returns
+pub returns-then-k-eq7 : goal.returns-then-k-eq7
 unfolding line_legal
-returns c =
-    simp (eq-eqb c.args.k 7 c.if-k-ne7.false, c.shape_legal.ensures, get_or-drop)
+returns-then-k-eq7 c =
+    simp (eq-eqb c.args.k 7 c.if-k-eq7.true, c.shape_legal.ensures, get_or-drop)
+
+pub returns-else-k-eq7 : goal.returns-else-k-eq7
+returns-else-k-eq7 c = rw (ne_eqb c.args.k 7 c.if-k-eq7.false)

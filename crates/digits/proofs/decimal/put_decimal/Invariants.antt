@@ -1,5 +1,4 @@
 -- `digits::decimal::put_decimal` meets its contract. With the i digits that are left put before them, the digits written so far are the number. Assumes nothing.
-use Prim.Native.Nat.{◌≤◌}
 use mathlib.Core.Path.{◌≡◌}
 use lib.ListN.{length}
 use Rattle.octets.specs.Parts.{put}
@@ -7,7 +6,4 @@ use Rattle.digits.specs.Digits.{last_digits, decimal_of}
 use Rattle.digits.proofs.decimal.put_decimal.Given as goal
 
 abbrev pub invariant-loop-i : goal.invariant-loop-i
-invariant-loop-i l = (l.i ≤ 5) × (length l.out ≡ length l.initial.out) × (put l.at (last_digits l.i l.left) l.out ≡ put l.at (decimal_of l.n) l.initial.out)
-
-abbrev pub decreases-loop-i : goal.decreases-loop-i
-decreases-loop-i l = l.i
+invariant-loop-i l = (length l.out ≡ length l.initial.out) × (put l.at (last_digits l.i l.left) l.out ≡ put l.at (decimal_of l.n) l.initial.out)

@@ -1,5 +1,4 @@
 -- `digits::read::decode` meets its contract. After i turns the first i octets are written. Assumes nothing.
-use Prim.Native.Nat.{◌≤◌, ◌-◌}
 use mathlib.Core.Path.{◌≡◌}
 use lib.ListN.{length, take}
 use Rattle.octets.specs.Parts.{put}
@@ -7,7 +6,4 @@ use Rattle.digits.specs.Digits.{octets_of}
 use Rattle.digits.proofs.read.decode.Given as goal
 
 abbrev pub invariant-loop-i : goal.invariant-loop-i
-invariant-loop-i l = (l.i ≤ l.n) × (length l.to ≡ length l.initial.to) × (l.to ≡ put 0 (take l.i (octets_of l.s)) l.initial.to)
-
-abbrev pub decreases-loop-i : goal.decreases-loop-i
-decreases-loop-i l = l.n - l.i
+invariant-loop-i l = (length l.to ≡ length l.initial.to) × (l.to ≡ put 0 (take l.i (octets_of l.s)) l.initial.to)

@@ -4,4 +4,4 @@ use Rattle.effects.proofs.clock.send_timer.Goals as goal
 
 pub returns : goal.returns
 returns c =
-    send-done c.requires.0 (λ i. (c.type_inv.row i).fits) c.data_at.ensures.0 c.copy_to.ensures
+    send-done c.requires.0 c.fits-row c.data_at.ensures.0 c.copy_to.ensures

@@ -1,8 +1,0 @@
--- `octets::octets16` meets its contract. Assumes nothing.
-use native.Mathlib.Nat.{div-one}
-use Rattle.octets.specs.Numbers.{octets}
-use Rattle.octets.proofs.octets16.Goals as goal
-
-pub returns : goal.returns
-unfolding octets
-returns c = simp div-one
