@@ -1,5 +1,5 @@
 -- How numbers and lent octets become what the calls take. Assumes nothing.
-use Rattle.std.specs.Prelude.{ℕ, Bool, cond, not, ◌&&◌, ◌||◌, List, length, replicate, eqb, ltb, Some, None}
+use Rattle.std.specs.Prelude.{ℕ, Bool, cond, not, ◌&&◌, ◌||◌, List, length, eqb, ltb, Some, None}
 use Rattle.frame.specs.declared.Kind.{Kind}
 use Rattle.frame.specs.declared.Kind.TheVariants.{Standard, Advanced}
 use Rattle.rules.specs.declared.control.Command.{Command}
@@ -13,6 +13,7 @@ use Rattle.rules.specs.Control.{Known, known}
 use Rattle.codes.specs.Codes.{octet_of}
 use Rattle.requests.specs.declared.Ask.{Ask}
 use Rattle.requests.specs.declared.Request.{Request}
+use Rattle.typed.specs.Typed.{bytes_of}
 
 -- 0 standard, 1 advanced
 unfoldable pub kind_named : ℕ → Kind
@@ -52,10 +53,6 @@ ask_of None a b c = no_ask
 -- a frame kind is named, and a write has the bytes of a block
 unfoldable pub whole : ℕ → ℕ → List ℕ → Bool
 whole kind control bytes = ltb kind 2 && (not (eqb control 0x81) || eqb (length bytes) block_size)
-
--- the bytes of a block; zeros, where they are of another length
-unfoldable pub bytes_of : List ℕ → List ℕ
-bytes_of bytes = cond (eqb (length bytes) block_size) bytes (replicate block_size 0)
 
 -- the request that the numbers name
 unfoldable pub request_of : ℕ → ℕ → ℕ → ℕ → ℕ → ℕ → List ℕ → Request

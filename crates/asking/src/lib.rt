@@ -109,6 +109,6 @@ pub fn request_of(
         kind: kind_of(kind),
         desk,
         ask: ask_if(is_whole(kind, octet, bytes), octet, a, b, c),
-        bytes: typed::block_in(bytes).unwrap_or([0; BLOCK]),
+        bytes: typed::bytes_in(bytes),
     }
 }

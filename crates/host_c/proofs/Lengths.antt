@@ -7,6 +7,7 @@ use mathlib.Core.List.{List, [], ◌∷◌}
 use mathlib.Core.Option.{none, some, none-ne-some}
 use lib.Dec.{eqb}
 use lib.ListN.{length}
+use borrow.Author.Tests.{eq-eqb, ne_eqb}
 use Rattle.octets.specs.Tests.{first}
 use Rattle.frame.specs.declared.Refusal.{Refusal}
 use Rattle.frame.specs.Refusal.{number_of}
@@ -15,6 +16,15 @@ use Rattle.frame.proofs.Finding.{finding-found, finding-refused}
 use Rattle.frame.proofs.Numbers.{refuses}
 use Rattle.rules.specs.Output.{Wrote}
 use Rattle.host_c.specs.Coded.{not_long}
+
+module _ (size : ℕ) (s : List ℕ) (ts : List (ℕ × Bool)) where
+  pub right-length : length s ≡ size → first (not_long size s ∷ ts) ≡ first ts
+  unfolding first not_long
+  right-length e = rw (eq-eqb _ _ e)
+
+  pub wrong-length : (length s ≡ size → ⊥) → first (not_long size s ∷ ts) ≡ some 6
+  unfolding first not_long
+  wrong-length e = rw (ne_eqb _ _ e)
 
 module _ (size : ℕ) (s : List ℕ) (ts : List (ℕ × Bool)) (t out : List ℕ) where
   passed : (b : Bool) → first {A = ℕ} ((6, b) ∷ []) ≡ none → first {A = ℕ} ((6, b) ∷ ts) ≡ first ts

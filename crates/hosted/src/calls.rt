@@ -62,7 +62,7 @@ fn seven(rt: &impl Print, q: Request, store: &mut [u8], out: &mut [u8]) -> io::R
         bytes: [0; BLOCK],
     };
     let told = ask(rt, of_block, store, out)?;
-    Ok(typed::block_in(sent(out, told)).unwrap_or([0; BLOCK]))
+    Ok(typed::bytes_in(sent(out, told)))
 }
 
 // The lines of the records that the data of a reply carry.

@@ -1,10 +1,14 @@
 // Reading the words of a line, and a request from them.
+ghost use Rattle.std.specs.Prelude.{◌≤◌, length};
+
 use frame::Kind;
 use requests::{Ask, Request};
 use rules::BLOCK;
 
 // What stands behind the first space.
-fn behind(text: &[u8]) -> &[u8] {
+fn behind(text: &[u8]) -> &[u8]
+    ensures { length result.now ≤ length text.now }
+{
     text.get(show::until(text, b' ') + 1..).unwrap_or(&[])
 }
 

@@ -54,9 +54,9 @@ reply-start s f is = rw (sound-parts Reply s f is) (omega arith)
 
 -- ---- the count
 
-pub count-said : (control : ℕ) (sent : List ℕ) (n : ℕ) → control ≡ 0x22 → 2 ≤ length sent → n ≡ u16_at 0 sent → eqb (length sent) (2 + n * record_width) ≡ count_right control sent
+pub count-said : (control : ℕ) (sent : List ℕ) → control ≡ 0x22 → (length sent ≡ 0 → ⊥) → (n : ℕ) → n ≡ u16_at 0 sent → eqb (length sent) (2 + n * record_width) ≡ count_right control sent
 unfolding count_right
-count-said control sent n is long e = rw (is, ne_eqb (length sent) 0 (λ z. omega arith), e)
+count-said control sent is there n e = rw (is, ne_eqb _ _ there, e)
 
 -- ---- the tests of a sound frame, one after the other
 

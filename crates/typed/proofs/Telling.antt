@@ -44,9 +44,9 @@ sizes-told sent a b c e p q r = rw (right-length 6 sent e, p, q, r)
 
 -- ---- the data of a reply to 0x22
 
-pub data-counted : (sent : List ℕ) (n : ℕ) → 2 ≤ length sent → n ≡ u16_at 0 sent → 0 < n → n ≤ share → eqb (length sent) (2 + n * record_width) ≡ read_data sent
+pub data-counted : (sent : List ℕ) → (length sent ≡ 0 → ⊥) → (n : ℕ) → n ≡ u16_at 0 sent → (n ≡ 0 → ⊥) → n ≤ share → eqb (length sent) (2 + n * record_width) ≡ read_data sent
 unfolding read_data
-data-counted sent n long is more few = rw (ne_eqb (length sent) 0 (λ z. omega arith), ← is, lt-ltb 0 n more, le-leb n share few)
+data-counted sent there n is more few = rw (ne_eqb _ _ there, ← is, lt-ltb 0 n (omega arith), le-leb n share few)
 
 -- ---- record i
 

@@ -1,5 +1,5 @@
 -- What the data of a reply say. Assumes nothing.
-use Rattle.std.specs.Prelude.{ℕ, ◌+◌, ◌*◌, Bool, not, ◌&&◌, ◌||◌, List, [], ◌∷◌, length, get_or, eqb, ltb, leb}
+use Rattle.std.specs.Prelude.{ℕ, ◌+◌, ◌*◌, Bool, cond, not, ◌&&◌, ◌||◌, List, [], ◌∷◌, length, get_or, replicate, eqb, ltb, leb}
 use Rattle.octets.specs.Tests.{first}
 use Rattle.octets.specs.Parts.{part}
 use Rattle.octets.specs.Numbers.{number, u16_at}
@@ -20,6 +20,10 @@ other_length size sent = (8, not (eqb (length sent) size)) ∷ []
 
 unfoldable pub block_told : List ℕ → Finding (List ℕ)
 block_told sent = finding (first (other_length block_size sent)) sent
+
+-- for those who want bytes in any case: zeros where they are refused
+unfoldable pub bytes_of : List ℕ → List ℕ
+bytes_of sent = cond (eqb (length sent) block_size) sent (replicate block_size 0)
 
 -- ---- 0x86: the timer
 

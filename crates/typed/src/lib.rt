@@ -3,7 +3,7 @@
 
 ghost use Rattle.std.specs.Prelude.{◌≡◌};
 ghost use Rattle.frame.specs.Finding.{verdict_of};
-ghost use Rattle.typed.specs.Typed.{block_told, timer_told, sizes_told, read_data, count_told, record_told};
+ghost use Rattle.typed.specs.Typed.{block_told, bytes_of, timer_told, sizes_told, read_data, count_told, record_told};
 
 use frame::Refusal;
 use rules::BLOCK;
@@ -33,6 +33,13 @@ pub fn block_in(sent: &[u8]) -> Result<[u8; BLOCK], Refusal>
     ensures { verdict_of result ≡ block_told sent.now }
 {
     <[u8; BLOCK]>::try_from(sent).map_err(|_| Refusal::NotTheReply)
+}
+
+// Its bytes for those who want some in any case: zeros where they are refused.
+pub fn bytes_in(sent: &[u8]) -> [u8; BLOCK]
+    ensures { result ≡ bytes_of sent.now }
+{
+    block_in(sent).unwrap_or([0; BLOCK])
 }
 
 // The timer that a reply to 0x86 carries.

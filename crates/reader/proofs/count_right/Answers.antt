@@ -4,4 +4,4 @@ use Rattle.reader.proofs.Judging.{count-said}
 use Rattle.reader.proofs.count_right.Goals as goal
 
 pub returns-then-sent-ge2 : goal.returns-then-sent-ge2
-returns-then-sent-ge2 c = count-said _ _ _ (omega arith) (omega arith) c.get16.ensures
+returns-then-sent-ge2 c = count-said _ _ (omega arith) (λ z. omega arith) _ c.get16.ensures

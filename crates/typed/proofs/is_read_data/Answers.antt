@@ -11,6 +11,6 @@ pub returns-then-n : goal.returns-then-n
 returns-then-n c =
     let n = c.get16-n.result in
     elim c.if-n-gt0.branch [
-      | then-n-gt0 w ↦ data-counted _ n c.if-sent-lt2.false c.get16-n.ensures w.if-n-gt0.true (leb-true n share (sym w.value-is ∙ c.if-n.true))
+      | then-n-gt0 w ↦ data-counted _ (λ z. omega arith) n c.get16-n.ensures (λ z. omega arith) (leb-true n share (sym w.value-is ∙ c.if-n.true))
       | else-n-gt0 w ↦ absurd (omega (arith, ltb-true 0 n (sym w.value-is ∙ c.if-n.true), w.if-n-gt0.false))
     ]

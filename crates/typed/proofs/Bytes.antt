@@ -1,4 +1,4 @@
--- The bytes that a request carries: those of a block, or zeros. Assumes nothing.
+-- The bytes of a block in any case: those that are there, or zeros. Assumes nothing.
 use Rattle.std.specs.Prelude.{Result, Ok, Err}
 use Rattle.std.specs.Result.{result_unwrap_or}
 use Prim.Native.Nat.{ℕ}
@@ -12,8 +12,7 @@ use Rattle.octets.specs.Tests.{first}
 use Rattle.frame.specs.declared.Refusal.{Refusal}
 use Rattle.frame.specs.Finding.{Finding, refused, found, finding, verdict_of}
 use Rattle.rules.specs.Config.{block_size}
-use Rattle.typed.specs.Typed.{other_length, block_told}
-use Rattle.asking.specs.Numbers.{bytes_of}
+use Rattle.typed.specs.Typed.{other_length, block_told, bytes_of}
 
 -- what a finding holds, and else zeros
 abbrev held : Finding (List ℕ) → List ℕ
